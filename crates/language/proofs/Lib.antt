@@ -1,0 +1,12 @@
+pub mod Option
+pub mod Units
+pub mod Parsed
+pub mod Links
+pub mod Two
+pub mod Settled
+pub mod Spelt
+pub mod Exact
+pub mod Trees
+pub mod Decided
+pub mod Answered
+pub mod Theorems

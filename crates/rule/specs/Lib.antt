@@ -1,0 +1,4 @@
+pub mod Words
+pub mod Growing
+pub mod Standing
+pub mod Tables

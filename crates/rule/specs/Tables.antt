@@ -1,0 +1,36 @@
+-- The rule table of a pattern.
+use Prim.Native.Nat.{ℕ, _+_, _<_}
+use Rattle.language.specs.Links.{Links-of, Predecessors}
+use Rattle.language.specs.Patterns.{Accepted, Tree, alternatives, group, units}
+use Rattle.rule.specs.Words.{Says, byte-of, kind-of}
+use Rattle.rule.specs.declared.word.Kind.the-variants.{End}
+use Rattle.rule.specs.declared.word.Kind.{Kind}
+use Rattle.std.specs.declared.option.Option.{Option}
+use Rattle.syntax.specs.declared.PatternUnit.the-variants.{Close}
+use Rattle.syntax.specs.declared.PatternUnit.{PatternUnit}
+use lib.ListN.{getD, length}
+use mathlib.Core.List.{List}
+use mathlib.Core.Path.{_≡_}
+
+-- the word at position j says this kind and byte, and the positions that link to j
+pub record Word-at (link : ℕ → ℕ → Type 0) (j : ℕ) (kind : Kind) (byte word : ℕ) : Type 0 where
+  pub first : Option ℕ
+  pub second : Option ℕ
+  pub says : Says word kind byte first second
+  pub predecessors : Predecessors link j first second
+
+-- the words of the units us, one a position, and of the END behind them at n
+pub record Words-of (link : ℕ → ℕ → Type 0) (us : List PatternUnit) (n : ℕ) (words : List ℕ) : Type 0 where
+  pub last : n ≡ length us
+  pub units : (j : ℕ) → j < n → Word-at link j (kind-of (getD us j Close)) (byte-of (getD us j Close)) (getD words j 0)
+  pub end : Word-at link n End 0 (getD words n 0)
+
+-- The words up to n are the table of the pattern t. Its units stand between the added OPEN and CLOSE, as a group's do.
+pub record Table-of (t : Tree alternatives) (n : ℕ) (words : List ℕ) : Type 0 where
+  pub last : n ≡ length (units t) + 2
+  pub words-of : Words-of (Links-of t) (units (group t)) n words
+
+-- the bytes are a pattern, and the words up to n its rule table
+pub record Rule-of (bytes : List ℕ) (n : ℕ) (words : List ℕ) : Type 0 where
+  pub accepted : Accepted bytes
+  pub table : Table-of (accepted .tree) n words

@@ -1,0 +1,48 @@
+//! A rule: the words of its table, in memory of its own.
+
+ghost use Prim.Native.Nat.{_+_, _<_, _≤_};
+ghost use Rattle.language.specs.Limits.{most-units};
+ghost use Rattle.rule.specs.Words.{No-kind, Says};
+ghost use Rattle.std.specs.Options.{Cases};
+ghost use lib.ListN.{getD};
+ghost use mathlib.Core.Path.{_≡_};
+
+use crate::MOST_UNITS;
+use crate::word::Entry;
+
+/// The positions of a pattern of the most units: the added OPEN, the units, the added CLOSE and the END.
+pub const POSITIONS: usize = MOST_UNITS as usize + 3;
+
+/// A rule: a word for each position up to the last one.
+#[derive(Drop)]
+pub struct Rule {
+    pub(crate) words: [u32; POSITIONS],
+    pub(crate) last: u16,
+    ghost inside: { last < most-units + 3 },
+}
+
+impl Rule {
+    /// The number of the last position, the END.
+    pub fn last(&self) -> u16
+        ensures { λ r. ⌜ r ≡ now (self .entry) .last ⌝ }
+    {
+        self.last
+    }
+
+    /// The word of a position; none past the last one.
+    pub fn word(&self, position: u16) -> Option<u32>
+        ensures { λ r. ⌜ Cases r (now (self .entry) .last < position) (λ w. (position ≤ now (self .entry) .last) × (w ≡ getD (now (self .entry) .words) position 0)) ⌝ }
+    {
+        if position > self.last {
+            return None;
+        }
+        Some(self.words[position as usize])
+    }
+
+    /// The word of a position taken apart; none past the last one.
+    pub fn entry(&self, position: u16) -> Option<Entry>
+        ensures { λ r. ⌜ Cases r ((position ≤ now (self .entry) .last) → No-kind (getD (now (self .entry) .words) position 0)) (λ e. (position ≤ now (self .entry) .last) × Says (getD (now (self .entry) .words) position 0) (e .kind) (e .byte) (e .first) (e .second)) ⌝ }
+    {
+        Entry::of_word(self.word(position)?)
+    }
+}

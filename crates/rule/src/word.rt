@@ -1,0 +1,164 @@
+//! The words of the rule table: what a position is, and which positions link to it.
+
+ghost use Prim.Native.Nat.{ℕ, _%_, _<_};
+ghost use Rattle.rule.specs.Words.{No-kind, Position, Says, Under, byte-of, firsts, Holds, kind-number, kind-of, seconds};
+ghost use Rattle.std.specs.Options.{Cases};
+ghost use Rattle.std.specs.declared.option.Option.the-variants.{None, Some};
+ghost use Rattle.std.specs.declared.option.Option.{Option as Maybe};
+ghost use mathlib.Core.Path.{_≡_};
+
+use syntax::Letter;
+use syntax::PatternUnit;
+use syntax::Sign;
+
+/// What stands at a position.
+#[derive(Clone, Copy)]
+pub enum Kind {
+    Byte,
+    Any,
+    Open,
+    Bar,
+    Close,
+    Star,
+    Plus,
+    Opt,
+    End,
+}
+
+impl Kind {
+    /// The number of the kind, as the top four bits of a word have it.
+    pub fn number(self) -> u32
+        ensures { λ r. ⌜ r ≡ kind-number self ⌝ ∗ ⌜ r < 16 ⌝ }
+    {
+        match self {
+            Kind::Byte => 0,
+            Kind::Any => 1,
+            Kind::Open => 2,
+            Kind::Bar => 3,
+            Kind::Close => 4,
+            Kind::Star => 5,
+            Kind::Plus => 6,
+            Kind::Opt => 7,
+            Kind::End => 15,
+        }
+    }
+
+    /// The kind of a number, if it is one's.
+    pub fn of_number(number: u32) -> Option<Kind>
+        ensures { λ r. ⌜ Cases r ((k : Kind) → kind-number k ≡ number → ⊥) (λ k. kind-number k ≡ number) ⌝ }
+    {
+        match number {
+            0 => Some(Kind::Byte),
+            1 => Some(Kind::Any),
+            2 => Some(Kind::Open),
+            3 => Some(Kind::Bar),
+            4 => Some(Kind::Close),
+            5 => Some(Kind::Star),
+            6 => Some(Kind::Plus),
+            7 => Some(Kind::Opt),
+            15 => Some(Kind::End),
+            _ => None,
+        }
+    }
+
+    /// The kind of a unit.
+    pub(crate) fn of_unit(unit: PatternUnit) -> Kind
+        ensures { λ r. ⌜ r ≡ kind-of unit ⌝ }
+    {
+        match unit {
+            PatternUnit::Plain(Letter::Byte(_)) => Kind::Byte,
+            PatternUnit::Plain(Letter::Any) => Kind::Any,
+            PatternUnit::Open => Kind::Open,
+            PatternUnit::Bar => Kind::Bar,
+            PatternUnit::Close => Kind::Close,
+            PatternUnit::Repeat(Sign::Star) => Kind::Star,
+            PatternUnit::Repeat(Sign::Plus) => Kind::Plus,
+            PatternUnit::Repeat(Sign::Opt) => Kind::Opt,
+        }
+    }
+}
+
+/// The byte of a unit that stands for one, else 0.
+pub(crate) fn byte(unit: PatternUnit) -> u8
+    ensures { λ r. ⌜ r ≡ byte-of unit ⌝ }
+{
+    match unit {
+        PatternUnit::Plain(Letter::Byte(b)) => b,
+        _ => 0,
+    }
+}
+
+/// A word taken apart: the position's kind, the byte of a BYTE, and the positions that link to it, the smaller first.
+#[derive(Clone, Copy)]
+pub struct Entry {
+    pub kind: Kind,
+    pub byte: u8,
+    pub first: Option<u16>,
+    pub second: Option<u16>,
+}
+
+/// What stands in a field for a predecessor that is absent.
+const ABSENT: u32 = 1023;
+
+/// A predecessor as ten bits.
+fn field(predecessor: Option<u16>) -> u32
+    requires { ⌜ Position predecessor ⌝ }
+    ensures { λ r. ⌜ Holds r predecessor ⌝ }
+{
+    match predecessor {
+        Some(position) => u32::from(position),
+        None => ABSENT,
+    }
+}
+
+/// The predecessor in ten bits.
+fn predecessor(field: u32) -> Option<u16>
+    requires { ⌜ field < 1024 ⌝ }
+    ensures { λ r. ⌜ Holds field r ⌝ }
+{
+    if field == ABSENT { None } else { Some(field as u16) }
+}
+
+impl Entry {
+    /// The word of an entry.
+    pub(crate) fn word(self) -> u32
+        requires { ⌜ Position (self .first) ⌝ ∗ ⌜ Position (self .second) ⌝ }
+        ensures { λ r. ⌜ Says r (self .kind) (self .byte) (self .first) (self .second) ⌝ }
+    {
+        let fields = field(self.first) * 0x400 + field(self.second);
+        self.kind.number() * 0x1000_0000 + u32::from(self.byte) * 0x10_0000 + fields
+    }
+
+    /// The entry of a word; none where its kind is no kind's number.
+    pub fn of_word(word: u32) -> Option<Entry>
+        ensures { λ r. ⌜ Cases r (No-kind word) (λ e. Says word (e .kind) (e .byte) (e .first) (e .second)) ⌝ }
+    {
+        let kind = Kind::of_number(word / 0x1000_0000)?;
+        let byte = ((word / 0x10_0000) % 0x100) as u8;
+        Some(Entry { kind, byte, first: predecessor((word / 0x400) % 0x400), second: predecessor(word % 0x400) })
+    }
+}
+
+/// The two, the smaller first, an only one first.
+pub(crate) fn in_order(a: Option<u16>, b: Option<u16>) -> (Option<u16>, Option<u16>)
+    ensures { λ r. ⌜ (r .0 ≡ firsts a b) × (r .1 ≡ seconds a b) ⌝ }
+{
+    match (a, b) {
+        (Some(i), Some(j)) if i < j => (Some(i), Some(j)),
+        (Some(i), Some(j)) => (Some(j), Some(i)),
+        (Some(i), None) => (Some(i), None),
+        (None, _) => (b, None),
+    }
+}
+
+/// The word with one more predecessor, behind those that it has.
+pub(crate) fn with_last(old: u32, position: u16) -> u32
+    requires { ⌜ position < 1023 ⌝ ∗ ⌜ old % 0x400 ≡ 1023 ⌝ }
+    ensures { λ r. ⌜ ((kind : Kind) (byte : ℕ) (first : Maybe ℕ) → Under first position → Says old kind byte first None → Says r kind byte (firsts first (Some position)) (seconds first (Some position))) ⌝ }
+{
+    if (old / 0x400) % 0x400 == ABSENT {
+        old - ABSENT * 0x400 + u32::from(position) * 0x400
+    } else {
+        old - ABSENT + u32::from(position)
+    }
+}
