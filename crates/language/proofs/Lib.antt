@@ -2,8 +2,8 @@ pub mod Option
 pub mod Units
 pub mod Parsed
 pub mod Links
-pub mod Two
 pub mod Settled
+pub mod Two
 pub mod Spelt
 pub mod Exact
 pub mod Trees

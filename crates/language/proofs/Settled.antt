@@ -1,4 +1,4 @@
--- A position has its predecessor fields in one way only.
+-- A position has its predecessors in one order only, and the same ones under the same links.
 use Rattle.language.proofs.Option.{never, some-same}
 use mathlib.Core.Path.{_≡_, refl, sym, ap, _∙_, subst}
 use mathlib.Core.Logic.{_⊎_, inl, inr}
@@ -49,3 +49,10 @@ module _ (link : ℕ → ℕ → Type 0) (k : ℕ) where
 
   pub settled : (a b c d : Option ℕ) → Predecessors link k a b → Predecessors link k c d → (a ≡ c) × (b ≡ d)
   settled a b c d f g = let e = firsts a b c d f g in (e, both a b c d e f g)
+
+pub predecessors-as : (L M : ℕ → ℕ → Type 0) → ((i k : ℕ) → L i k → M i k) → ((i k : ℕ) → M i k → L i k) → (k : ℕ) (a b : Option ℕ) → Predecessors L k a b → Predecessors M k a b
+predecessors-as L M to back k a b h = record {
+  all = λ i. ((λ x. h .all i .0 (back i k x)), (λ e. to i k (h .all i .1 e)));
+  rising = h .rising;
+  only-first = h .only-first;
+}

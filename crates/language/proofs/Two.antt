@@ -1,7 +1,7 @@
 -- No position has more than two predecessors.
 use Rattle.language.proofs.Option.{never, some-same}
 use Rattle.language.specs.LeftToRight.{Linked, Open-group, Proper}
-use Rattle.language.specs.Links.{Link, Links-of, Loops, Predecessors, Sign-link, Skips, loop, onward, opt-skips, plus-loops, skip, star-loops, star-skips}
+use Rattle.language.specs.Links.{Links-of, Loops, Predecessors, Sign-link, Skips, loop, onward, opt-skips, plus-loops, skip, star-loops, star-skips}
 use Rattle.language.specs.Patterns.{Tree, alternatives, group, units}
 use Rattle.syntax.specs.declared.PatternUnit.the-variants.{Bar, Close, Open, Plain, Repeat}
 use Rattle.syntax.specs.declared.PatternUnit.{PatternUnit}
@@ -18,6 +18,7 @@ use native.Mathlib.Omega.{arith}
 use native.Mathlib.Decide.{decLt, ℕ-discrete}
 use Rattle.language.proofs.Links.{link-linked, linked-link}
 use Rattle.language.proofs.Parsed.{group-proper}
+use Rattle.language.proofs.Settled.{predecessors-as}
 
 -- at most one number, or at most two, of which G holds
 abbrev One : (ℕ → Type 0) → Type 0
@@ -26,7 +27,7 @@ One G = (b : Option ℕ) × ((i : ℕ) → G i ↔ (b ≡ Some i))
 abbrev Two : (ℕ → Type 0) → Type 0
 Two G = (a : Option ℕ) × (b : Option ℕ) × ((i : ℕ) → G i ↔ ((a ≡ Some i) ⊎ (b ≡ Some i)))
 
-same-some : {x y : ℕ} → Some x ≡ Some y → y ≡ x
+pub same-some : {x y : ℕ} → Some x ≡ Some y → y ≡ x
 same-some e = sym (some-same e)
 
 one-none : {G : ℕ → Type 0} → ((i : ℕ) → G i → ⊥) → One G
@@ -54,7 +55,7 @@ abbrev Chain : List Open-group → ℕ → Type 0
 Chain [] B = Unit {0}
 Chain (f ∷ gs) B = (f .opened < B) × Chain gs (f .opened)
 
-chain-up : (gs : List Open-group) (B C : ℕ) → B ≤ C → Chain gs B → Chain gs C
+pub chain-up : (gs : List Open-group) (B C : ℕ) → B ≤ C → Chain gs B → Chain gs C
 chain-up [] B C h c = tt
 chain-up (f ∷ gs) B C h (l, c) = (omega arith, c)
 
@@ -62,7 +63,7 @@ abbrev Not-in : ℕ → List Open-group → Type 0
 Not-in k [] = Unit {0}
 Not-in k (f ∷ gs) = (f .opened ≡ k → ⊥) × Not-in k gs
 
-chain-not-in : (gs : List Open-group) (B k : ℕ) → B ≤ k → Chain gs B → Not-in k gs
+pub chain-not-in : (gs : List Open-group) (B k : ℕ) → B ≤ k → Chain gs B → Not-in k gs
 chain-not-in [] B k h c = tt
 chain-not-in (f ∷ gs) B k h (l, c) = ((λ e. omega arith), chain-not-in gs (f .opened) k (omega arith) c)
 
@@ -82,7 +83,7 @@ abbrev barred : Open-group → ℕ → Open-group
 barred f p = record { opened = f .opened; last = Some p }
 
 -- a position behind that starts no open group and no operand gets no link any more
-dead : (us : List PatternUnit) (gs : List Open-group) (q p k d : ℕ) (c : Bool) → Proper d c us → k < p → Not-in k gs → Away c q k → (i : ℕ) → Linked gs q p us i k → ⊥
+pub dead : (us : List PatternUnit) (gs : List Open-group) (q p k d : ℕ) (c : Bool) → Proper d c us → k < p → Not-in k gs → Away c q k → (i : ℕ) → Linked gs q p us i k → ⊥
 dead [] gs q p k d c pr h n a i l = l
 dead (Open ∷ us) gs q p k d c pr h n a i (inl (e, f)) = omega arith
 dead (Open ∷ us) gs q p k d c pr h n a i (inr l) = dead us (fresh p ∷ gs) p (suc p) k (suc d) false pr (omega arith) ((λ e. omega arith), n) tt i l
@@ -112,6 +113,7 @@ loop-yes g q p k h e s = (Some p, λ i. (to i, λ f. loop s (same-some f) (sym e
     to i (loop t f l) = ap Some (sym f)
 
 sign-loop : (g : Sign) (q p k : ℕ) → k < p → q ≡ k → One (λ i. Sign-link g q p i k)
+unfolding loop-yes one-none
 sign-loop Star q p k h e = loop-yes Star q p k h e star-loops
 sign-loop Plus q p k h e = loop-yes Plus q p k h e plus-loops
 sign-loop Opt q p k h e = one-none to
@@ -131,6 +133,7 @@ skip-yes g q p k e h s = (Some q, λ i. (to i, λ f. skip s (same-some f) e))
     to i (loop t f l) = let z : ⊥ = omega arith in absurd z
 
 sign-skip : (g : Sign) (q p k : ℕ) → k ≡ p → q < p → One (λ i. Sign-link g q p i k)
+unfolding skip-yes one-none
 sign-skip Star q p k e h = skip-yes Star q p k e h star-skips
 sign-skip Opt q p k e h = skip-yes Opt q p k e h opt-skips
 sign-skip Plus q p k e h = one-none to
@@ -141,18 +144,19 @@ sign-skip Plus q p k e h = one-none to
     to i (loop t f l) = omega arith
 
 -- the link of a sign to the next position
-sign-ahead : (g : Sign) (q p k i : ℕ) → p < k → q < p → Sign-link g q p i k → (i ≡ p) × (k ≡ suc p)
+pub sign-ahead : (g : Sign) (q p k i : ℕ) → p < k → q < p → Sign-link g q p i k → (i ≡ p) × (k ≡ suc p)
 sign-ahead g q p k i h l (onward f m) = (f, m)
 sign-ahead g q p k i h l (skip t f m) = let z : ⊥ = omega arith in absurd z
 sign-ahead g q p k i h l (loop t f m) = let z : ⊥ = omega arith in absurd z
 
-sign-elsewhere : (g : Sign) (q p k i : ℕ) → k < p → (q ≡ k → ⊥) → Sign-link g q p i k → ⊥
+pub sign-elsewhere : (g : Sign) (q p k i : ℕ) → k < p → (q ≡ k → ⊥) → Sign-link g q p i k → ⊥
 sign-elsewhere g q p k i h n (onward f m) = omega arith
 sign-elsewhere g q p k i h n (skip t f m) = omega arith
 sign-elsewhere g q p k i h n (loop t f m) = n (sym m)
 
 -- a position behind gets at most one more link
 later : (us : List PatternUnit) (gs : List Open-group) (q p k d B : ℕ) (c : Bool) → Proper d c us → k < p → B ≤ p → Chain gs B → Fits c q B → One (λ i. Linked gs q p us i k)
+unfolding one-none one-via sign-loop ℕ-discrete
 later [] gs q p k d B c pr h le ch fi = one-none (λ i l. l)
 later (Open ∷ us) gs q p k d B c pr h le ch fi =
     one-via (λ i l. elim l [ inl z ↦ let y : ⊥ = omega arith in absurd y | inr z ↦ z ]) (λ i l. inr l)
@@ -187,11 +191,13 @@ abbrev Into : Option ℕ → List Open-group → ℕ → ℕ → List PatternUni
 Into fr gs q p us k i = ((k ≡ p) × (fr ≡ Some i)) ⊎ Linked gs q p us i k
 
 just-front : (fr : Option ℕ) {G : ℕ → Type 0} (k p : ℕ) → k ≡ p → ((i : ℕ) → G i → ⊥) → Two (λ i. ((k ≡ p) × (fr ≡ Some i)) ⊎ G i)
+unfolding one-none two-of
 just-front fr {G} k p e f =
     two-of fr (λ i x. elim x [ inl z ↦ inl (z .1) | inr z ↦ absurd (f i z) ]) (λ i x. elim x [ inl z ↦ inl (e, z) | inr z ↦ inr z ]) (one-none {G = G} f)
 
 here : (us : List PatternUnit) (gs : List Open-group) (q p k d B : ℕ) (c : Bool) (fr : Option ℕ) → Proper d c us → k ≡ p → B ≤ p → Chain gs B → Fits c q B → Behind c q p
     → Two (Into fr gs q p us k)
+unfolding just-front later sign-skip two-of
 here [] gs q p k d B c fr pr e le ch fi be = just-front fr k p e (λ i l. l)
 here (Open ∷ us) gs q p k d B c fr pr e le ch fi be =
     two-of fr
@@ -241,11 +247,13 @@ here (Repeat g ∷ us) gs q p k d B true fr pr e le ch fi be =
 ahead : (k p : ℕ) (fr fr′ : Option ℕ) (G H : ℕ → Type 0) → p < k
     → ((i : ℕ) → G i → ((k ≡ suc p) × (fr′ ≡ Some i)) ⊎ H i) → ((i : ℕ) → ((k ≡ suc p) × (fr′ ≡ Some i)) ⊎ H i → G i)
     → Two (λ i. ((k ≡ suc p) × (fr′ ≡ Some i)) ⊎ H i) → Two (λ i. ((k ≡ p) × (fr ≡ Some i)) ⊎ G i)
+unfolding two-via
 ahead k p fr fr′ G H l f g x =
     two-via (λ i y. elim y [ inl z ↦ let v : ⊥ = omega arith in absurd v | inr z ↦ f i z ]) (λ i y. inr (g i y)) x
 
 front : (us : List PatternUnit) (gs : List Open-group) (q p k d B : ℕ) (c : Bool) (fr : Option ℕ) → Proper d c us → p ≤ k → B ≤ p → Chain gs B → Fits c q B → Behind c q p
     → Two (Into fr gs q p us k)
+unfolding ahead decLt here
 front [] gs q p k d B c fr pr h le ch fi be =
     elim (decLt p k) [
       | yes l ↦ (None, None, λ i. (λ x. elim x [ inl z ↦ let v : ⊥ = omega arith in absurd v | inr z ↦ absurd z ], λ x. elim x [ inl z ↦ never z | inr z ↦ never z ]))
@@ -310,6 +318,7 @@ front (Repeat g ∷ us) gs q p k d B true fr pr h le ch fi be =
 
 -- in order
 sorted : (link : ℕ → ℕ → Type 0) (k : ℕ) → Two (λ i. link i k) → (a : Option ℕ) × (b : Option ℕ) × Predecessors link k a b
+unfolding decLt
 sorted link k (None, None, h) = (None, None, record { all = h; rising = λ i j e f. never e; only-first = λ e. e })
 sorted link k (Some x, None, h) = (Some x, None, record { all = h; rising = λ i j e f. never f; only-first = λ e. refl })
 sorted link k (None, Some y, h) = (
@@ -347,8 +356,14 @@ sorted link k (Some x, Some y, h) =
       ]
     ]
 
-pub at-most-two : (t : Tree alternatives) (k : ℕ) → (a : Option ℕ) × (b : Option ℕ) × Predecessors (Link (group t) 0) k a b
+-- the predecessors of a position, found from the units
+unfoldable pub two-predecessors : (us : List PatternUnit) → Proper 0 false us → (k : ℕ) → (a : Option ℕ) × (b : Option ℕ) × Predecessors (Linked [] 0 0 us) k a b
+unfolding front sorted two-via
+two-predecessors us pr k =
+    sorted (Linked [] 0 0 us) k
+    (two-via (λ i l. inr l) (λ i x. elim x [ inl z ↦ never (z .1) | inr z ↦ z ]) (front us [] 0 0 k 0 0 false None pr (omega arith) (omega arith) tt tt tt))
+
+pub at-most-two : (t : Tree alternatives) (k : ℕ) → (a : Option ℕ) × (b : Option ℕ) × Predecessors (Links-of t) k a b
 at-most-two t k =
-    sorted (Link (group t) 0) k
-    (two-via (λ i l. inr (link-linked t i k l)) (λ i x. elim x [ inl z ↦ never (z .1) | inr z ↦ linked-link t i k z ])
-    (front (units (group t)) [] 0 0 k 0 0 false None (group-proper t) (omega arith) (omega arith) tt tt tt))
+    let (a, b, p) = two-predecessors (units (group t)) (group-proper t) k in
+    (a, b, predecessors-as (Linked [] 0 0 (units (group t))) (Links-of t) (linked-link t) (link-linked t) k a b p)

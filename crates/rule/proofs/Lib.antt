@@ -6,3 +6,4 @@ pub mod Begun
 pub mod Readied
 pub mod Whole
 pub mod Rounds
+pub mod OneTable

@@ -2,11 +2,12 @@
 use Prim.Native.Nat.{ℕ, suc, _+_, _-_, _<_}
 use Rattle.language.proofs.Exact.{one-reading}
 use Rattle.language.proofs.Links.{link-linked, linked-link}
+use Rattle.language.proofs.Settled.{predecessors-as}
 use Rattle.language.proofs.Trees.{accepted-reads, reads-accepted, reads-few}
 use Rattle.language.specs.Faults.{Before, Faulty, Reads, left-open, operand}
 use Rattle.language.specs.LeftToRight.{Open-group}
 use Rattle.language.specs.Limits.{most-units}
-use Rattle.language.specs.Links.{Links-of, Predecessors}
+use Rattle.language.specs.Links.{Links-of}
 use Rattle.language.specs.Patterns.{Tree, alternatives, group, units}
 use Rattle.rule.proofs.GrownBy.{grown-close}
 use Rattle.rule.proofs.Stood.{top, writes-over}
@@ -65,11 +66,8 @@ finished b l v e f h us x s =
 
 -- the links by the tree in place of those by the units
 module _ (L M : ℕ → ℕ → Type 0) (to : (i k : ℕ) → L i k → M i k) (back : (i k : ℕ) → M i k → L i k) where
-  predecessors-as : (j : ℕ) (a b : Option ℕ) → Predecessors L j a b → Predecessors M j a b
-  predecessors-as j a b h = record { all = λ i. ((λ x. h .all i .0 (back i j x)), (λ e. to i j (h .all i .1 e))); rising = h .rising; only-first = h .only-first }
-
   word-as : (j : ℕ) (kind : Kind) (byte w : ℕ) → Word-at L j kind byte w → Word-at M j kind byte w
-  word-as j kind byte w x = record { first = x .first; second = x .second; says = x .says; predecessors = predecessors-as j (x .first) (x .second) (x .predecessors) }
+  word-as j kind byte w x = record { first = x .first; second = x .second; says = x .says; predecessors = predecessors-as L M to back j (x .first) (x .second) (x .predecessors) }
 
   pub words-as : (us : List PatternUnit) (n : ℕ) (words : List ℕ) → Words-of L us n words → Words-of M us n words
   words-as us n words e = record {

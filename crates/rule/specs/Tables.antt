@@ -1,5 +1,5 @@
 -- The rule table of a pattern.
-use Prim.Native.Nat.{ℕ, _+_, _<_}
+use Prim.Native.Nat.{ℕ, _+_, _<_, _≤_}
 use Rattle.language.specs.Links.{Links-of, Predecessors}
 use Rattle.language.specs.Patterns.{Accepted, Tree, alternatives, group, units}
 use Rattle.rule.specs.Words.{Says, byte-of, kind-of}
@@ -34,3 +34,9 @@ pub record Table-of (t : Tree alternatives) (n : ℕ) (words : List ℕ) : Type 
 pub record Rule-of (bytes : List ℕ) (n : ℕ) (words : List ℕ) : Type 0 where
   pub accepted : Accepted bytes
   pub table : Table-of (accepted .tree) n words
+
+-- all tables of a pattern end at one position, and have the same words up to it
+abbrev pub Each-pattern-has-one-table : Type 0
+Each-pattern-has-one-table =
+    (bytes : List ℕ) (n m : ℕ) (words others : List ℕ) → Rule-of bytes n words → Rule-of bytes m others →
+    (n ≡ m) × ((j : ℕ) → j ≤ n → getD words j 0 ≡ getD others j 0)

@@ -7,7 +7,7 @@ mod word;
 ghost use Rattle.language.specs.Faults.{Faulty};
 ghost use Rattle.language.specs.Answers.{No-fault, Only-fault};
 ghost use Rattle.rule.specs.Standing.{Read-to};
-ghost use Rattle.rule.specs.Tables.{Rule-of};
+ghost use Rattle.rule.specs.Tables.{Each-pattern-has-one-table, Rule-of};
 ghost use Rattle.std.specs.Options.{Cases as BySome};
 ghost use Rattle.std.specs.Results.{Cases};
 ghost use Rattle.syntax.specs.Stops.{stop-number};
@@ -65,4 +65,10 @@ pub fn load(slot: &mut Option<Rule>, pattern: &[u8]) -> Result<u16, Fault>
     let last = rule.last();
     *slot = Some(rule);
     Ok(last)
+}
+
+/// The table of a pattern is settled: its length, and every word of it.
+pub fn each_pattern_has_one_table()
+    ensures { λ _. ⌜ Each-pattern-has-one-table ⌝ }
+{
 }
