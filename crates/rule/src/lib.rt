@@ -20,6 +20,7 @@ use syntax::Stop;
 pub use table::Rule;
 pub use word::Entry;
 pub use word::Kind;
+pub use word::KindDisplay;
 
 /// A pattern has at most so many units.
 pub const MOST_UNITS: u16 = 1020;

@@ -5,6 +5,7 @@ ghost use Rattle.language.specs.Limits.{most-units};
 ghost use Rattle.rule.specs.Words.{No-kind, Says};
 ghost use Rattle.std.specs.Options.{Cases};
 ghost use lib.ListN.{getD};
+ghost use mathlib.Core.Logic.{_⊎_};
 ghost use mathlib.Core.Path.{_≡_};
 
 use crate::MOST_UNITS;
@@ -18,7 +19,6 @@ pub const POSITIONS: usize = MOST_UNITS as usize + 3;
 pub struct Rule {
     pub(crate) words: [u32; POSITIONS],
     pub(crate) last: u16,
-    ghost inside: { last < most-units + 3 },
 }
 
 impl Rule {
@@ -29,19 +29,23 @@ impl Rule {
         self.last
     }
 
-    /// The word of a position; none past the last one.
+    /// The word of a position; none past the last one, or past the memory.
     pub fn word(&self, position: u16) -> Option<u32>
-        ensures { λ r. ⌜ Cases r (now (self .entry) .last < position) (λ w. (position ≤ now (self .entry) .last) × (w ≡ getD (now (self .entry) .words) position 0)) ⌝ }
+        ensures { λ r. ⌜ Cases r
+            ((now (self .entry) .last < position) ⊎ (most-units + 3 ≤ position))
+            (λ w. (position ≤ now (self .entry) .last) × (w ≡ getD (now (self .entry) .words) position 0)) ⌝ }
     {
         if position > self.last {
             return None;
         }
-        Some(self.words[position as usize])
+        self.words.get(position as usize).copied()
     }
 
-    /// The word of a position taken apart; none past the last one.
+    /// The word of a position taken apart; none past the last one, or where its kind is no kind's number.
     pub fn entry(&self, position: u16) -> Option<Entry>
-        ensures { λ r. ⌜ Cases r ((position ≤ now (self .entry) .last) → No-kind (getD (now (self .entry) .words) position 0)) (λ e. (position ≤ now (self .entry) .last) × Says (getD (now (self .entry) .words) position 0) (e .kind) (e .byte) (e .first) (e .second)) ⌝ }
+        ensures { λ r. ⌜ Cases r
+            ((now (self .entry) .last < position) ⊎ ((most-units + 3 ≤ position) ⊎ No-kind (getD (now (self .entry) .words) position 0)))
+            (λ e. (position ≤ now (self .entry) .last) × Says (getD (now (self .entry) .words) position 0) (e .kind) (e .byte) (e .first) (e .second)) ⌝ }
     {
         Entry::of_word(self.word(position)?)
     }

@@ -7,6 +7,7 @@ ghost use Rattle.std.specs.declared.option.Option.the-variants.{None, Some};
 ghost use Rattle.std.specs.declared.option.Option.{Option as Maybe};
 ghost use mathlib.Core.Path.{_≡_};
 
+use std::fmt;
 use syntax::Letter;
 use syntax::PatternUnit;
 use syntax::Sign;
@@ -62,7 +63,7 @@ impl Kind {
     }
 
     /// The kind of a unit.
-    pub(crate) fn of_unit(unit: PatternUnit) -> Kind
+    pub fn of_unit(unit: PatternUnit) -> Kind
         ensures { λ r. ⌜ r ≡ kind-of unit ⌝ }
     {
         match unit {
@@ -75,6 +76,24 @@ impl Kind {
             PatternUnit::Repeat(Sign::Plus) => Kind::Plus,
             PatternUnit::Repeat(Sign::Opt) => Kind::Opt,
         }
+    }
+}
+
+/// The kind in letters.
+pub impl fmt::Display for Kind as KindDisplay {
+    fn fmt<W: fmt::Write>(&self, f: &mut fmt::Formatter<W>) -> fmt::Result {
+        let letters = match self {
+            Kind::Byte => "BYTE",
+            Kind::Any => "ANY",
+            Kind::Open => "OPEN",
+            Kind::Bar => "BAR",
+            Kind::Close => "CLOSE",
+            Kind::Star => "STAR",
+            Kind::Plus => "PLUS",
+            Kind::Opt => "OPT",
+            Kind::End => "END",
+        };
+        f.write_str(letters)
     }
 }
 

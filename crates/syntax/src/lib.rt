@@ -11,6 +11,8 @@ ghost use mathlib.Core.List.{List, [], _∷_};
 ghost use mathlib.Core.Logic.{_⊎_};
 ghost use mathlib.Core.Path.{_≡_};
 
+use std::fmt;
+
 /// What takes one byte of a frame: a byte, or the period.
 #[derive(Clone, Copy)]
 pub enum Letter {
@@ -76,6 +78,22 @@ impl Stop {
             Stop::SignAfterSign => 6,
             Stop::TooDeep => 7,
         }
+    }
+}
+
+/// The reason in words.
+pub impl fmt::Display for Stop as StopDisplay {
+    fn fmt<W: fmt::Write>(&self, f: &mut fmt::Formatter<W>) -> fmt::Result {
+        let reason = match self {
+            Stop::TooLong => "a byte follows the most units that a pattern may have",
+            Stop::NoUnit => "a backslash that begins no escape, or one of [ ] { } ^ $ bare",
+            Stop::NothingOpen => "a ) with no group open",
+            Stop::LeftOpen => "the pattern ends with this group open",
+            Stop::NoOperand => "a repeat sign first in the pattern, or after ( or |",
+            Stop::SignAfterSign => "a repeat sign after a repeat sign",
+            Stop::TooDeep => "a ( inside the most groups that may be open",
+        };
+        f.write_str(reason)
     }
 }
 
