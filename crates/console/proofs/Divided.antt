@@ -17,8 +17,8 @@ module _ (xs : List ℕ) (i : ℕ) (h : i < length xs) where
   pub divided-at : ((k : ℕ) → k < i → getD xs k 0 ≡ 32 → ⊥) → getD xs i 0 ≡ 32 → Divides xs (take i xs) (take (length xs - (i + 1)) (drop (i + 1) xs))
   divided-at n e = record {
     no-space = λ k l f.
-      let m : k < i = subst (λ z. k < z) (length-take-le i xs (omega arith)) l in
-      n k m (sym (getD-take i xs k 0 m) ∙ f);
+        let m : k < i = subst (λ z. k < z) (length-take-le i xs (omega arith)) l in
+        n k m (sym (getD-take i xs k 0 m) ∙ f);
     parts = inr (sym (take-append-drop i xs) ∙ ap (λ z. take i xs ++ z) (drop-cons xs i 0 h ∙ ap (λ z. z ∷ drop (suc i) xs) e ∙ ap (λ z. 32 ∷ drop z xs) (sym (add-one i)) ∙ ap (λ z. 32 ∷ z) (sym (rest-of (i + 1) xs))));
   }
 

@@ -48,10 +48,16 @@ fn divide(line: &[u8]) -> Parts<'_>
 {
     for (i, b) in line.iter().enumerate() {
         if *b == b' ' {
-            return Parts { word: &line[0..i], rest: &line[i + 1..] };
+            return Parts {
+                word: &line[0..i],
+                rest: &line[i + 1..],
+            };
         }
     }
-    Parts { word: line, rest: &[] }
+    Parts {
+        word: line,
+        rest: &[],
+    }
 }
 
 impl<'a> Command<'a> {
@@ -63,6 +69,10 @@ impl<'a> Command<'a> {
             return Command::Nothing;
         }
         let parts = divide(line);
-        if parts.word == b"load" { Command::Load(parts.rest) } else { Command::Unknown }
+        if parts.word == b"load" {
+            Command::Load(parts.rest)
+        } else {
+            Command::Unknown
+        }
     }
 }

@@ -35,7 +35,10 @@ fn show_unit(rt: &LibcRuntime, placed: Placed, position: usize) -> io::Result<()
     let place = placed.place;
     let kind = Kind::of_unit(placed.unit);
     match placed.unit {
-        PatternUnit::Plain(Letter::Byte(b)) => println!(rt, "  unit at {place}: {kind} {b:02X}, position {position}"),
+        PatternUnit::Plain(Letter::Byte(b)) => println!(
+            rt,
+            "  unit at {place}: {kind} {b:02X}, position {position}"
+        ),
         _ => println!(rt, "  unit at {place}: {kind}, position {position}"),
     }
 }
@@ -132,7 +135,10 @@ fn run_line(rt: &LibcRuntime, slot: &mut Option<Rule>, line: &[u8]) -> io::Resul
         Command::Unknown => {
             print!(rt, "unknown command: ")?;
             show_bytes(rt, line)?;
-            println!(rt, "\n  known are: load PATTERN, and lines that are blank or begin with #")
+            println!(
+                rt,
+                "\n  known are: load PATTERN, and lines that are blank or begin with #"
+            )
         }
     }
 }

@@ -33,7 +33,7 @@ nothing-yet words = record {
 }
 
 pub begun : (words : List ℕ) (hs : List Group) (w : ℕ) → length words ≡ most-units + 3 → length hs ≡ most-groups + 1 → getD hs 0 blank ≡ blank → Says w kind.Open 0 None None
-  → Stands (record { words = set words 0 w; count = 1; groups = hs; depth = 1; front = Some 0; start = 0; last = last.Start }) [] [] start
+    → Stands (record { words = set words 0 w; count = 1; groups = hs; depth = 1; front = Some 0; start = 0; last = last.Start }) [] [] start
 begun words hs w h k e s = record {
   open-groups = record { opened = 0; last = None } ∷ [];
   grown = grown-open (nothing-yet words) (set words 0 w) (writes-over words 0 0 Open None None w ⊥ (omega arith) s (λ z. z));

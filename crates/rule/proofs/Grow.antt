@@ -81,7 +81,7 @@ module _ (old new now : ℕ → ℕ → Type 0) (sum : (i k : ℕ) → now i k �
       (λ l. elim (sum i k .0 l) [
         | inl x ↦ elim (f .all i .0 x) [ inl e ↦ to-ordered a own i (inl e) | inr e ↦ never e ]
         | inr x ↦ to-ordered a own i (inr (w i .0 x))
-        ]),
+      ]),
       (λ e. elim (ordered-to a own i e) [ inl x ↦ sum i k .1 (inl (f .all i .1 (inl x))) | inr x ↦ sum i k .1 (inr (w i .1 x)) ]),
     );
     rising = ordered-rising a own n;

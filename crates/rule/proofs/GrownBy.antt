@@ -28,8 +28,7 @@ under-up (Some i) p u = omega arith
 
 -- the open groups hold on
 module _ {us : List PatternUnit} {words : List ℕ} {gs : List Open-group} {q p : ℕ} {front : Option ℕ} {b : Before} (g : Grown us words gs q p front b)
-  {m : PatternUnit} {own ahead : Option ℕ} {Back : Type 0} (a : Adds gs q p m own ahead Back) where
-
+    {m : PatternUnit} {own ahead : Option ℕ} {Back : Type 0} (a : Adds gs q p m own ahead Back) where
   nested-kept : (hs : List Open-group) (B : ℕ) → B ≤ p → (Back → B ≤ q) → Nested us hs B p → Nested (us ++ (m ∷ [])) hs B (suc p)
   nested-kept [] B h n x = tt
   nested-kept (f ∷ hs) B h n (l, u, s, r) = (
@@ -86,12 +85,12 @@ adds-letter gs q p l = record {
 }
 
 next-letter : (gs : List Open-group) (q p : ℕ) (l : Letter) (rest : List PatternUnit) (i k : ℕ)
-  → Linked gs q p (Plain l ∷ rest) i k ↔ (Linked gs q p (Plain l ∷ []) i k ⊎ Linked gs p (suc p) rest i k)
+    → Linked gs q p (Plain l ∷ rest) i k ↔ (Linked gs q p (Plain l ∷ []) i k ⊎ Linked gs p (suc p) rest i k)
 next-letter gs q p l rest i k = (λ x. inr x, λ x. elim x [ inl y ↦ absurd y | inr y ↦ y ])
 
 pub grown-letter : {us : List PatternUnit} {words : List ℕ} {gs : List Open-group} {q p : ℕ} {front : Option ℕ} {b : Before} → Grown us words gs q p front b
-  → (l : Letter) (words′ : List ℕ) → Writes words words′ q p (Plain l) (firsts front None) (seconds front None) ⊥
-  → Grown (us ++ (Plain l ∷ [])) words′ gs p (suc p) None operand
+    → (l : Letter) (words′ : List ℕ) → Writes words words′ q p (Plain l) (firsts front None) (seconds front None) ⊥
+    → Grown (us ++ (Plain l ∷ [])) words′ gs p (suc p) None operand
 grown-letter {us} {words} {gs} {q} {p} {front} {b} g l words′ w =
     let a = adds-letter gs q p l in
     record {
@@ -126,15 +125,15 @@ adds-open gs q p = record {
 }
 
 next-open : (gs : List Open-group) (q p : ℕ) (rest : List PatternUnit) (i k : ℕ)
-  → Linked gs q p (Open ∷ rest) i k ↔ (Linked gs q p (Open ∷ []) i k ⊎ Linked (record { opened = p; last = None } ∷ gs) p (suc p) rest i k)
+    → Linked gs q p (Open ∷ rest) i k ↔ (Linked gs q p (Open ∷ []) i k ⊎ Linked (record { opened = p; last = None } ∷ gs) p (suc p) rest i k)
 next-open gs q p rest i k = (
   (λ x. elim x [ inl y ↦ inl (inl y) | inr y ↦ inr y ]),
   (λ x. elim x [ inl y ↦ inl (one-link p (suc p) i k y) | inr y ↦ inr y ]),
 )
 
 pub grown-open : {us : List PatternUnit} {words : List ℕ} {gs : List Open-group} {q p : ℕ} {front : Option ℕ} {b : Before} → Grown us words gs q p front b
-  → (words′ : List ℕ) → Writes words words′ q p Open (firsts front None) (seconds front None) ⊥
-  → Grown (us ++ (Open ∷ [])) words′ (record { opened = p; last = None } ∷ gs) p (suc p) (Some p) start
+    → (words′ : List ℕ) → Writes words words′ q p Open (firsts front None) (seconds front None) ⊥
+    → Grown (us ++ (Open ∷ [])) words′ (record { opened = p; last = None } ∷ gs) p (suc p) (Some p) start
 grown-open {us} {words} {gs} {q} {p} {front} {b} g words′ w =
     let a = adds-open gs q p in
     record {
@@ -176,7 +175,7 @@ module _ (f : Open-group) (gs : List Open-group) (q p : ℕ) (u : Under (f .last
   }
 
   next-bar : (rest : List PatternUnit) (i k : ℕ)
-    → Linked (f ∷ gs) q p (Bar ∷ rest) i k ↔ (Linked (f ∷ gs) q p (Bar ∷ []) i k ⊎ Linked (barred f p ∷ gs) p (suc p) rest i k)
+      → Linked (f ∷ gs) q p (Bar ∷ rest) i k ↔ (Linked (f ∷ gs) q p (Bar ∷ []) i k ⊎ Linked (barred f p ∷ gs) p (suc p) rest i k)
   next-bar rest i k = (
     (λ x. elim x [ inl y ↦ inl (inl y) | inr y ↦ elim y [ inl z ↦ inl (inr (inl z)) | inr z ↦ inr z ] ]),
     (λ x. elim x [ inl y ↦ elim (bar-link i k y) [ inl z ↦ inl z | inr z ↦ inr (inl z) ] | inr y ↦ inr (inr y) ]),
@@ -201,15 +200,15 @@ module _ (f : Open-group) (gs : List Open-group) (q p : ℕ) (u : Under (f .last
   }
 
   next-close : (rest : List PatternUnit) (i k : ℕ)
-    → Linked (f ∷ gs) q p (Close ∷ rest) i k ↔ (Linked (f ∷ gs) q p (Close ∷ []) i k ⊎ Linked gs (f .opened) (suc p) rest i k)
+      → Linked (f ∷ gs) q p (Close ∷ rest) i k ↔ (Linked (f ∷ gs) q p (Close ∷ []) i k ⊎ Linked gs (f .opened) (suc p) rest i k)
   next-close rest i k = (
     (λ x. elim x [ inl y ↦ inl (inl y) | inr y ↦ elim y [ inl z ↦ inl (inr (inl z)) | inr z ↦ inr z ] ]),
     (λ x. elim x [ inl y ↦ elim (close-link i k y) [ inl z ↦ inl z | inr z ↦ inr (inl z) ] | inr y ↦ inr (inr y) ]),
   )
 
 pub grown-bar : {us : List PatternUnit} {words : List ℕ} {f : Open-group} {gs : List Open-group} {q p : ℕ} {front : Option ℕ} {b : Before} → Grown us words (f ∷ gs) q p front b
-  → (words′ : List ℕ) → Writes words words′ q p Bar (firsts front (f .last)) (seconds front (f .last)) ⊥
-  → Grown (us ++ (Bar ∷ [])) words′ (record { opened = f .opened; last = Some p } ∷ gs) p (suc p) (Some (f .opened)) start
+    → (words′ : List ℕ) → Writes words words′ q p Bar (firsts front (f .last)) (seconds front (f .last)) ⊥
+    → Grown (us ++ (Bar ∷ [])) words′ (record { opened = f .opened; last = Some p } ∷ gs) p (suc p) (Some (f .opened)) start
 grown-bar {us} {words} {f} {gs} {q} {p} {front} {b} g words′ w =
     let (l, u, s, r) = g .nested in
     let a = adds-bar f gs q p u l in
@@ -226,8 +225,8 @@ grown-bar {us} {words} {f} {gs} {q} {p} {front} {b} g words′ w =
     }
 
 pub grown-close : {us : List PatternUnit} {words : List ℕ} {f : Open-group} {gs : List Open-group} {q p : ℕ} {front : Option ℕ} {b : Before} → Grown us words (f ∷ gs) q p front b
-  → (words′ : List ℕ) → Writes words words′ q p Close (firsts front (f .last)) (seconds front (f .last)) ⊥
-  → Grown (us ++ (Close ∷ [])) words′ gs (f .opened) (suc p) (Some p) operand
+    → (words′ : List ℕ) → Writes words words′ q p Close (firsts front (f .last)) (seconds front (f .last)) ⊥
+    → Grown (us ++ (Close ∷ [])) words′ gs (f .opened) (suc p) (Some p) operand
 grown-close {us} {words} {f} {gs} {q} {p} {front} {b} g words′ w =
     let (l, u, s, r) = g .nested in
     let a = adds-close f gs q p u l in
@@ -293,7 +292,7 @@ module _ (g : Sign) (gs : List Open-group) (q p : ℕ) (l : q < p) where
   }
 
   next-sign : (rest : List PatternUnit) (i k : ℕ)
-    → Linked gs q p (Repeat g ∷ rest) i k ↔ (Linked gs q p (Repeat g ∷ []) i k ⊎ Linked gs q (suc p) rest i k)
+      → Linked gs q p (Repeat g ∷ rest) i k ↔ (Linked gs q p (Repeat g ∷ []) i k ⊎ Linked gs q (suc p) rest i k)
   next-sign rest i k = (
     (λ x. elim x [ inl y ↦ inl (inl y) | inr y ↦ inr y ]),
     (λ x. elim x [ inl y ↦ elim y [ inl z ↦ inl z | inr z ↦ absurd z ] | inr y ↦ inr y ]),
@@ -305,8 +304,8 @@ skip-apart Plus q front n = λ i _ e. never e
 skip-apart Opt q front n = n
 
 pub grown-sign : {us : List PatternUnit} {words : List ℕ} {gs : List Open-group} {q p : ℕ} {front : Option ℕ} → Grown us words gs q p front operand
-  → (g : Sign) (words′ : List ℕ) → Writes words words′ q p (Repeat g) (firsts front (skip-of g q)) (seconds front (skip-of g q)) (Loops g)
-  → Grown (us ++ (Repeat g ∷ [])) words′ gs q (suc p) (Some p) sign
+    → (g : Sign) (words′ : List ℕ) → Writes words words′ q p (Repeat g) (firsts front (skip-of g q)) (seconds front (skip-of g q)) (Loops g)
+    → Grown (us ++ (Repeat g ∷ [])) words′ gs q (suc p) (Some p) sign
 grown-sign {us} {words} {gs} {q} {p} {front} t g words′ w =
     let o = t .repeats in
     let a = adds-sign g gs q p (o .before) in
@@ -317,7 +316,7 @@ grown-sign {us} {words} {gs} {q} {p} {front} t g words′ w =
       laid = laid′ t a words′ w (skip-apart g q front (o .apart)) (λ _. record { before = o .before; single = o .single });
       ahead = ahead′ t a;
       nested = nested-up (us ++ (Repeat g ∷ [])) gs q (suc p) (suc p) (let h = o .before in omega arith)
-        (nested-kept t a gs q (let h = o .before in omega arith) (λ _. omega arith) (nested-in us gs p q p (o .inside) (t .nested)));
+          (nested-kept t a gs q (let h = o .before in omega arith) (λ _. omega arith) (nested-in us gs p q p (o .inside) (t .nested)));
       apart = apart-p us gs p p (t .nested);
       repeats = tt;
     }

@@ -82,12 +82,12 @@ pub refused-again : (g : Sign) (os : List ℕ) (x : Before) → x ≡ sign → R
 refused-again g os x h = subst (λ z. Refused (Repeat g) os z 6) (sym h) sign-after-sign
 
 pub took-close : (b b′ : Builder) (p : ℕ) (us : List PatternUnit) (os : List ℕ) (x : Before) → Stands b us os x → 1 < b .depth
-  → ((vs : List PatternUnit) (o : ℕ) (qs : List ℕ) (y : Before) → Stands b vs (o ∷ qs) y → Stands b′ (vs ++ (Close ∷ [])) qs operand) → Took b′ Close p us os x
+    → ((vs : List PatternUnit) (o : ℕ) (qs : List ℕ) (y : Before) → Stands b vs (o ∷ qs) y → Stands b′ (vs ++ (Close ∷ [])) qs operand) → Took b′ Close p us os x
 took-close b b′ p us [] x s h f = let d = s .depth in let o = s .opens in let z : ⊥ = omega arith in absurd z
 took-close b b′ p us (o ∷ os) x s h f = (os, operand, a-close, f us o os x s)
 
 pub took-sign : (b b′ : Builder) (g : Sign) (p : ℕ) (us : List PatternUnit) (os : List ℕ) (x : Before) → Stands b us os x → b .last ≡ last.Operand
-  → ((vs : List PatternUnit) (qs : List ℕ) → Stands b vs qs operand → Stands b′ (vs ++ (Repeat g ∷ [])) qs sign) → Took b′ (Repeat g) p us os x
+    → ((vs : List PatternUnit) (qs : List ℕ) → Stands b vs qs operand → Stands b′ (vs ++ (Repeat g ∷ [])) qs sign) → Took b′ (Repeat g) p us os x
 took-sign b b′ g p us os x s e f =
     subst (λ z. Took b′ (Repeat g) p us os z) (sym (ap before-of e) ∙ s .last) (os, sign, a-sign, f us os (as-operand b us os x s e))
 

@@ -61,11 +61,11 @@ module _ (xs : List ℕ) (p : ℕ) (h : p ≤ length xs) where
       let len = length-take-le p xs h in
       let both : length (take p xs ++ w .spelling) ≡ p′ = length-append (take p xs) (w .spelling) ∙ (let e = w .ends in omega arith) in
       let whole : xs ≡ (take p xs ++ w .spelling) ++ drop p′ xs =
-        sym (take-append-drop p xs) ∙ ap (λ z. take p xs ++ z) (w .splits) ∙ sym (append-assoc (take p xs) (w .spelling) (drop p′ xs)) in
+      sym (take-append-drop p xs) ∙ ap (λ z. take p xs ++ z) (w .splits) ∙ sym (append-assoc (take p xs) (w .spelling) (drop p′ xs)) in
       ap (take p′) whole ∙ ap (λ z. take z ((take p xs ++ w .spelling) ++ drop p′ xs)) (sym both) ∙ take-front (take p xs ++ w .spelling) (drop p′ xs)
 
   pub next-round : (b b′ : Builder) (u : PatternUnit) (p′ : ℕ) (r : Read-to (take p xs) b) → b .count ≤ most-units → Passed xs p u p′
-    → Took b′ u p (r .us) (r .os) (r .x) → Read-to (take p′ xs) b′
+      → Took b′ u p (r .us) (r .os) (r .x) → Read-to (take p′ xs) b′
   next-round b b′ u p′ r k w (os′, x′, g, s) =
       let e = units-count b (r .us) (r .os) (r .x) (r .stands) in
       let g′ : Goes (length (take p xs)) u (r .os) (r .x) os′ x′ = subst (λ z. Goes z u (r .os) (r .x) os′ x′) (sym (length-take-le p xs h)) g in

@@ -34,7 +34,7 @@ pub record Writes (words words′ : List ℕ) (q p : ℕ) (m : PatternUnit) (fir
   pub here : Says (getD words′ p 0) (kind-of m) (byte-of m) first second
   pub other : (j : ℕ) → j < p → (Back → j ≡ q → ⊥) → getD words′ j 0 ≡ getD words j 0
   pub back : Back → (kind : Kind) (byte : ℕ) (a : Option ℕ) → Under a p → Says (getD words q 0) kind byte a None
-    → Says (getD words′ q 0) kind byte (firsts a (Some p)) (seconds a (Some p))
+      → Says (getD words′ q 0) kind byte (firsts a (Some p)) (seconds a (Some p))
 
 -- what a repeat sign that leads back needs
 pub record Loose (us : List PatternUnit) (q p : ℕ) : Type 0 where
@@ -57,8 +57,7 @@ at-front (y ∷ xs) x d zero h = refl
 at-front (y ∷ xs) x d (suc j) h = at-front xs x d j (omega arith)
 
 module _ {us : List PatternUnit} {words : List ℕ} {gs : List Open-group} {q p : ℕ} {front : Option ℕ} {b : Before} (g : Grown us words gs q p front b)
-  {m : PatternUnit} {own ahead : Option ℕ} {Back : Type 0} (a : Adds gs q p m own ahead Back) where
-
+    {m : PatternUnit} {own ahead : Option ℕ} {Back : Type 0} (a : Adds gs q p m own ahead Back) where
   pub sum : (i k : ℕ) → Sofar (us ++ (m ∷ [])) i k ↔ (Sofar us i k ⊎ Linked gs q p (m ∷ []) i k)
   sum = g .splits (m ∷ [])
 
@@ -66,32 +65,32 @@ module _ {us : List PatternUnit} {words : List ℕ} {gs : List Open-group} {q p 
   count′ = let h = g .count in simp length-append (omega arith)
 
   pub splits′ : (gs′ : List Open-group) (q′ : ℕ)
-    → ((rest : List PatternUnit) (i k : ℕ) → Linked gs q p (m ∷ rest) i k ↔ (Linked gs q p (m ∷ []) i k ⊎ Linked gs′ q′ (suc p) rest i k))
-    → (rest : List PatternUnit) (i k : ℕ) → Linked [] 0 0 ((us ++ (m ∷ [])) ++ rest) i k ↔ (Sofar (us ++ (m ∷ [])) i k ⊎ Linked gs′ q′ (suc p) rest i k)
+      → ((rest : List PatternUnit) (i k : ℕ) → Linked gs q p (m ∷ rest) i k ↔ (Linked gs q p (m ∷ []) i k ⊎ Linked gs′ q′ (suc p) rest i k))
+      → (rest : List PatternUnit) (i k : ℕ) → Linked [] 0 0 ((us ++ (m ∷ [])) ++ rest) i k ↔ (Sofar (us ++ (m ∷ [])) i k ⊎ Linked gs′ q′ (suc p) rest i k)
   splits′ gs′ q′ next rest i k = (
     (λ l. elim (g .splits (m ∷ rest) i k .0 (subst (λ z. Linked [] 0 0 z i k) (append-assoc us (m ∷ []) rest) l)) [
       | inl x ↦ inl (sum i k .1 (inl x))
       | inr x ↦ elim (next rest i k .0 x) [ inl y ↦ inl (sum i k .1 (inr y)) | inr y ↦ inr y ]
-      ]),
+    ]),
     (λ l. subst (λ z. Linked [] 0 0 z i k) (sym (append-assoc us (m ∷ []) rest)) (g .splits (m ∷ rest) i k .1 (elim l [
       | inl x ↦ elim (sum i k .0 x) [ inl y ↦ inl y | inr y ↦ inr (next rest i k .1 (inl y)) ]
       | inr x ↦ inr (next rest i k .1 (inr x))
-      ]))),
+    ]))),
   )
 
   pub low′ : (i k : ℕ) → Sofar (us ++ (m ∷ [])) i k → (i < suc p) × (k ≤ suc p)
   low′ i k l = elim (sum i k .0 l) [
     | inl x ↦ let (h, e) = g .low i k x in (omega arith, omega arith)
     | inr x ↦ a .bounds i k x
-    ]
+  ]
 
   pub ahead′ : Predecessors (Sofar (us ++ (m ∷ []))) (suc p) ahead None
   ahead′ = fresh (Sofar us) (λ i k. Linked gs q p (m ∷ []) i k) (Sofar (us ++ (m ∷ []))) sum (suc p) ahead
-    (λ i x. let h = g .low i (suc p) x .1 in omega arith) (a .into-next)
+      (λ i x. let h = g .low i (suc p) x .1 in omega arith) (a .into-next)
 
   kept : (j : ℕ) (c d : Option ℕ) → j < p → (Back → j ≡ q → ⊥) → Predecessors (Sofar us) j c d → Predecessors (Sofar (us ++ (m ∷ []))) j c d
   kept j c d h n f = keep (Sofar us) (λ i k. Linked gs q p (m ∷ []) i k) (Sofar (us ++ (m ∷ []))) sum j c d f
-    (λ i x. let r = a .into-back i j h x in n (r .0) (r .1))
+      (λ i x. let r = a .into-back i j h x in n (r .0) (r .1))
 
   pub single′ : (j : ℕ) → j < p → (Back → j ≡ q → ⊥) → Single us j → Single (us ++ (m ∷ [])) j
   single′ j h n (c, f) = (c, kept j c None h n f)
@@ -127,7 +126,7 @@ module _ {us : List PatternUnit} {words : List ℕ} {gs : List Open-group} {q p 
       first = l .first;
       second = l .second;
       says = subst (λ u. Says (getD words′ j 0) (kind-of u) (byte-of u) (l .first) (l .second)) (sym (unit-at j h))
-        (subst (λ z. Says z (kind-of (getD us j Close)) (byte-of (getD us j Close)) (l .first) (l .second)) (sym (w .other j h x)) (l .says));
+          (subst (λ z. Says z (kind-of (getD us j Close)) (byte-of (getD us j Close)) (l .first) (l .second)) (sym (w .other j h x)) (l .says));
       predecessors = kept j (l .first) (l .second) h x (l .predecessors);
     }
 
@@ -143,9 +142,9 @@ module _ {us : List PatternUnit} {words : List ℕ} {gs : List Open-group} {q p 
           first = firsts (l .first) (Some p);
           second = seconds (l .first) (Some p);
           says = subst (λ z. Says (getD words′ q 0) (kind-of z) (byte-of z) (firsts (l .first) (Some p)) (seconds (l .first) (Some p))) (sym (unit-at q h))
-            (w .back y (kind-of u1) (byte-of u1) (l .first) u (subst (λ z. Says (getD words q 0) (kind-of u1) (byte-of u1) (l .first) z) e (l .says)));
+              (w .back y (kind-of u1) (byte-of u1) (l .first) u (subst (λ z. Says (getD words q 0) (kind-of u1) (byte-of u1) (l .first) z) e (l .says)));
           predecessors = add (Sofar us) (λ i k. Linked gs q p (m ∷ []) i k) (Sofar (us ++ (m ∷ []))) sum q (l .first) (Some p) f1 (under-apart (l .first) u)
-            (λ i. ((λ x. ap Some (sym (a .into-back i q h x .2))), (λ x. subst (λ z. Linked gs q p (m ∷ []) z q) (some-same x) (a .back-in y))));
+              (λ i. ((λ x. ap Some (sym (a .into-back i q h x .2))), (λ x. subst (λ z. Linked gs q p (m ∷ []) z q) (some-same x) (a .back-in y))));
         }
 
     laid-before : (j : ℕ) → j < p → Laid (us ++ (m ∷ [])) words′ j
@@ -153,12 +152,12 @@ module _ {us : List PatternUnit} {words : List ℕ} {gs : List Open-group} {q p 
       | inl y ↦ elim (eq-or j q) [
         | inl e ↦ subst (λ z. Laid (us ++ (m ∷ [])) words′ z) (sym e) (laid-back y (g .laid q (loose y .before)))
         | inr x ↦ laid-other j h (λ _ e. x e) (g .laid j h)
-        ]
-      | inr x ↦ laid-other j h (λ y _. x y) (g .laid j h)
       ]
+      | inr x ↦ laid-other j h (λ y _. x y) (g .laid j h)
+    ]
 
     pub laid′ : (j : ℕ) → j < suc p → Laid (us ++ (m ∷ [])) words′ j
     laid′ j h = elim (lt-or j p h) [
       | inl x ↦ laid-before j x
       | inr e ↦ subst (λ z. Laid (us ++ (m ∷ [])) words′ z) (sym e) laid-here
-      ]
+    ]

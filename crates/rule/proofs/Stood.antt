@@ -2,11 +2,11 @@
 use Rattle.language.specs.Faults.{Before, operand, sign, start}
 use Rattle.language.specs.LeftToRight.{Linked, Open-group}
 use Rattle.language.specs.Limits.{most-groups, most-units}
-use Rattle.language.specs.Links.{Loops}
+use Rattle.language.specs.Links.{Loops, plus-loops, star-loops}
 use Rattle.rule.proofs.GrownBy.{grown-bar, grown-close, grown-letter, grown-open, grown-sign}
 use Rattle.rule.proofs.Step.{Writes}
 use Rattle.rule.specs.Growing.{Grown}
-use Rattle.rule.specs.Standing.{Laid-down, Listed, Opened-last, Placed-at, Room, Stands, blank, open-of, skip-of}
+use Rattle.rule.specs.Standing.{Laid-down, Listed, Opened-last, Placed-at, Room, Stands, blank, loops-back, open-of, skip-of}
 use Rattle.rule.specs.Words.{Says, Under, byte-of, firsts, kind-of, seconds}
 use Rattle.rule.specs.declared.builder.Builder.{Builder}
 use Rattle.rule.specs.declared.builder.Group.{Group}
@@ -15,7 +15,10 @@ use Rattle.rule.specs.declared.word.Kind.{Kind}
 use Rattle.syntax.specs.declared.Letter.{Letter}
 use Rattle.syntax.specs.declared.PatternUnit.the-variants.{Bar, Close, Open, Plain, Repeat}
 use Rattle.syntax.specs.declared.PatternUnit.{PatternUnit}
+use Rattle.syntax.specs.declared.Sign.the-variants.{Opt, Plus, Star}
 use Rattle.syntax.specs.declared.Sign.{Sign}
+use borrow.Author.Tests.{clash}
+use mathlib.Core.Bool.{false, true}
 use mathlib.Core.Path.{_≡_, refl, sym, ap, subst, _∙_}
 use mathlib.Core.List.{List, [], _∷_, _++_, append-assoc}
 use mathlib.Core.Logic.{_⊎_, inl, inr, _↔_, _≢_}
@@ -30,7 +33,7 @@ use Rattle.std.specs.declared.option.Option.the-variants.{None, Some}
 
 -- one word laid, and nothing led back
 pub writes-over : (words : List ℕ) (q p : ℕ) (m : PatternUnit) (a b : Option ℕ) (w : ℕ) (Back : Type 0) → p < length words → Says w (kind-of m) (byte-of m) a b → (Back → ⊥)
-  → Writes words (set words p w) q p m a b Back
+    → Writes words (set words p w) q p m a b Back
 writes-over words q p m a b w Back h s n = record {
   here = subst (λ z. Says z (kind-of m) (byte-of m) a b) (sym (getD-set-same words p w 0 h)) s;
   other = λ j l _. let ne : j ≢ p = omega arith in getD-set-other words p j w 0 ne;
@@ -43,10 +46,17 @@ at-more {us} {words} {gs} {q} p {front} {b} g = subst (λ z. Grown us words gs q
 -- a letter
 abbrev after-letter : Builder → Builder → Builder
 after-letter b l = record {
-  words = l .words; count = l .count; groups = l .groups; depth = l .depth; front = None; start = b .count; last = last.Operand }
+  words = l .words;
+  count = l .count;
+  groups = l .groups;
+  depth = l .depth;
+  front = None;
+  start = b .count;
+  last = last.Operand;
+}
 
 pub stood-letter : (b l : Builder) (t : Letter) → Laid-down b (Plain t) None l → Room b → (us : List PatternUnit) (os : List ℕ) (x : Before) → Stands b us os x
-  → Stands (after-letter b l) (us ++ (Plain t ∷ [])) os operand
+    → Stands (after-letter b l) (us ++ (Plain t ∷ [])) os operand
 stood-letter b l t e r us os x s =
     let P : Builder → Type 0 = λ z. Stands (after-letter b z) (us ++ (Plain t ∷ [])) os operand in
     let room = r .room in
@@ -82,11 +92,17 @@ opened-at b place = record { opened = b .count; bar = None; place = place }
 
 abbrev after-open : Builder → Builder → ℕ → Builder
 after-open b l place = record {
-  words = l .words; count = l .count; groups = set (l .groups) (l .depth) (opened-at b place); depth = l .depth + 1;
-  front = Some (b .count); start = b .count; last = last.Start }
+  words = l .words;
+  count = l .count;
+  groups = set (l .groups) (l .depth) (opened-at b place);
+  depth = l .depth + 1;
+  front = Some (b .count);
+  start = b .count;
+  last = last.Start;
+}
 
 pub stood-open : (b l : Builder) (place : ℕ) → Laid-down b Open None l → Room b → (us : List PatternUnit) (os : List ℕ) (x : Before) → length os < most-groups → Stands b us os x
-  → Stands (after-open b l place) (us ++ (Open ∷ [])) (place ∷ os) start
+    → Stands (after-open b l place) (us ++ (Open ∷ [])) (place ∷ os) start
 stood-open b l place e r us os x h s =
     let P : Builder → Type 0 = λ z. Stands (after-open b z place) (us ++ (Open ∷ [])) (place ∷ os) start in
     let room = r .room in
@@ -118,7 +134,7 @@ stood-open b l place e r us os x h s =
 
 -- the innermost group, as the builder has it
 pub top : (b : Builder) (us : List PatternUnit) (x : Before) (n : ℕ) (gs : List Open-group) → Grown (Open ∷ us) (b .words) gs (b .start) (b .count) (b .front) x → Listed (b .groups) gs → b .depth ≡ length gs → length gs ≡ suc n
-  → (gs : List Open-group) × Grown (Open ∷ us) (b .words) (open-of (getD (b .groups) (b .depth - 1) blank) ∷ gs) (b .start) (b .count) (b .front) x × Listed (b .groups) gs × (b .depth - 1 ≡ length gs) × (length gs ≡ n)
+    → (gs : List Open-group) × Grown (Open ∷ us) (b .words) (open-of (getD (b .groups) (b .depth - 1) blank) ∷ gs) (b .start) (b .count) (b .front) x × Listed (b .groups) gs × (b .depth - 1 ≡ length gs) × (length gs ≡ n)
 top b us x n [] g fr d e = let z : ⊥ = omega arith in absurd z
 top b us x n (f ∷ gs) g (h, fr) d e =
     let k : b .depth - 1 ≡ length gs = omega arith in
@@ -127,10 +143,17 @@ top b us x n (f ∷ gs) g (h, fr) d e =
 
 abbrev after-close : Builder → Builder → Builder
 after-close b l = record {
-  words = l .words; count = l .count; groups = l .groups; depth = l .depth - 1; front = Some (b .count); start = Opened-last b .opened; last = last.Operand }
+  words = l .words;
+  count = l .count;
+  groups = l .groups;
+  depth = l .depth - 1;
+  front = Some (b .count);
+  start = Opened-last b .opened;
+  last = last.Operand;
+}
 
 pub stood-close : (b l : Builder) → Laid-down b Close (Opened-last b .bar) l → Room b → (us : List PatternUnit) (o : ℕ) (os : List ℕ) (x : Before) → Stands b us (o ∷ os) x
-  → Stands (after-close b l) (us ++ (Close ∷ [])) os operand
+    → Stands (after-close b l) (us ++ (Close ∷ [])) os operand
 stood-close b l e r us o os x s =
     let P : Builder → Type 0 = λ z. Stands (after-close b z) (us ++ (Close ∷ [])) os operand in
     let room = r .room in
@@ -156,7 +179,7 @@ abbrev Patches : List ℕ → ℕ → ℕ → ℕ → Type 0
 Patches words q p v = (kind : Kind) (byte : ℕ) (a : Option ℕ) → Under a p → Says (getD words q 0) kind byte a None → Says v kind byte (firsts a (Some p)) (seconds a (Some p))
 
 writes-back : (words : List ℕ) (q p : ℕ) (m : PatternUnit) (a b : Option ℕ) (w : ℕ) (Back : Type 0) (v : ℕ) → p < length words → q < p → Back → Says w (kind-of m) (byte-of m) a b
-  → Patches (set words p w) q p v → Writes words (set (set words p w) q v) q p m a b Back
+    → Patches (set words p w) q p v → Writes words (set (set words p w) q v) q p m a b Back
 writes-back words q p m a b w Back v h l y s f =
     let pq : p ≢ q = omega arith in
     let qp : q ≢ p = omega arith in
@@ -165,23 +188,47 @@ writes-back words q p m a b w Back v h l y s f =
       here = subst (λ z. Says z (kind-of m) (byte-of m) a b) (sym (getD-set-other (set words p w) q p v 0 pq ∙ getD-set-same words p w 0 h)) s;
       other = λ j k n. let jp : j ≢ p = omega arith in getD-set-other (set words p w) q j v 0 (n y) ∙ getD-set-other words p j w 0 jp;
       back = λ _ kind byte c u e.
-        subst (λ z. Says z kind byte (firsts c (Some p)) (seconds c (Some p))) (sym (getD-set-same (set words p w) q v 0 long))
-        (f kind byte c u (subst (λ z. Says z kind byte c None) (sym (getD-set-other words p q w 0 qp)) e));
+          subst (λ z. Says z kind byte (firsts c (Some p)) (seconds c (Some p))) (sym (getD-set-same (set words p w) q v 0 long))
+          (f kind byte c u (subst (λ z. Says z kind byte c None) (sym (getD-set-other words p q w 0 qp)) e));
     }
+
+pub loops-of : (g : Sign) → loops-back g ≡ true → Loops g
+loops-of Star e = star-loops
+loops-of Plus e = plus-loops
+loops-of Opt e = absurd (clash e)
+
+pub no-loops : (g : Sign) → loops-back g ≡ false → Loops g → ⊥
+no-loops Star e l = clash (sym e)
+no-loops Plus e l = clash (sym e)
+no-loops Opt e l = elim l [ ]
 
 abbrev after-sign : Builder → Builder → Builder
 after-sign b r = record {
-  words = r .words; count = r .count; groups = r .groups; depth = r .depth; front = Some (b .count); start = r .start; last = last.Sign }
+  words = r .words;
+  count = r .count;
+  groups = r .groups;
+  depth = r .depth;
+  front = Some (b .count);
+  start = r .start;
+  last = last.Sign;
+}
 
 abbrev patched : Builder → Builder → ℕ → Builder
 patched b l v = record {
-  words = set (l .words) (b .start) v; count = l .count; groups = l .groups; depth = l .depth; front = l .front; start = l .start; last = l .last }
+  words = set (l .words) (b .start) v;
+  count = l .count;
+  groups = l .groups;
+  depth = l .depth;
+  front = l .front;
+  start = l .start;
+  last = l .last;
+}
 
 module _ (b : Builder) (g : Sign) (room : Room b) (us : List PatternUnit) (os : List ℕ) (s : Stands b us os operand)
-  (l : Builder) (e : Laid-down b (Repeat g) (skip-of g (b .start)) l) where
+    (l : Builder) (e : Laid-down b (Repeat g) (skip-of g (b .start)) l) where
   sign-with : (words′ : List ℕ) → length words′ ≡ most-units + 3
-    → Writes (b .words) words′ (b .start) (b .count) (Repeat g) (firsts (b .front) (skip-of g (b .start))) (seconds (b .front) (skip-of g (b .start))) (Loops g)
-    → Stands (record { words = words′; count = b .count + 1; groups = b .groups; depth = b .depth; front = Some (b .count); start = b .start; last = last.Sign }) (us ++ (Repeat g ∷ [])) os sign
+      → Writes (b .words) words′ (b .start) (b .count) (Repeat g) (firsts (b .front) (skip-of g (b .start))) (seconds (b .front) (skip-of g (b .start))) (Loops g)
+      → Stands (record { words = words′; count = b .count + 1; groups = b .groups; depth = b .depth; front = Some (b .count); start = b .start; last = last.Sign }) (us ++ (Repeat g ∷ [])) os sign
   sign-with words′ long w = record {
     open-groups = s .open-groups;
     grown = at-more (b .count) (grown-sign (s .grown) g words′ w);
@@ -217,7 +264,7 @@ place-set : (gs : List Group) (d : ℕ) (g : Group) (k : ℕ) → d < length gs 
 place-set gs d g k h e = elim (ℕ-discrete k d) [
   | yes s ↦ ap (λ z. getD (set gs d g) z blank .place) s ∙ ap (λ z. z .place) (getD-set-same gs d g blank h) ∙ e ∙ ap (λ z. getD gs z blank .place) (sym s)
   | no n ↦ ap (λ z. z .place) (getD-set-other gs d k g blank n)
-  ]
+]
 
 placed-over : (gs : List Group) (os : List ℕ) (d : ℕ) (g : Group) → d < length gs → g .place ≡ getD gs d blank .place → Placed-at gs os → Placed-at (set gs d g) os
 placed-over gs [] d g h e x = tt
@@ -228,11 +275,17 @@ barred b l = record { opened = Opened-last l .opened; bar = Some (b .count); pla
 
 abbrev after-bar : Builder → Builder → Builder
 after-bar b l = record {
-  words = l .words; count = l .count; groups = set (l .groups) (l .depth - 1) (barred b l); depth = l .depth;
-  front = Some (Opened-last b .opened); start = b .count; last = last.Start }
+  words = l .words;
+  count = l .count;
+  groups = set (l .groups) (l .depth - 1) (barred b l);
+  depth = l .depth;
+  front = Some (Opened-last b .opened);
+  start = b .count;
+  last = last.Start;
+}
 
 pub stood-bar : (b l : Builder) → Laid-down b Bar (Opened-last b .bar) l → Room b → (us : List PatternUnit) (os : List ℕ) (x : Before) → Stands b us os x
-  → Stands (after-bar b l) (us ++ (Bar ∷ [])) os start
+    → Stands (after-bar b l) (us ++ (Bar ∷ [])) os start
 stood-bar b l e r us os x s =
     let P : Builder → Type 0 = λ z. Stands (after-bar b z) (us ++ (Bar ∷ [])) os start in
     let room = r .room in

@@ -35,32 +35,32 @@ abbrev pub framed : List PatternUnit → List PatternUnit
 framed us = Open ∷ (us ++ (Close ∷ []))
 
 ended : (us : List PatternUnit) (words : List ℕ) (gs : List Open-group) (q p a v : ℕ) (x : Before) → Grown us words gs q p (Some a) x → p < length words
-  → Says v End 0 (Some a) None → Words-of (Sofar us) us p (set words p v)
+    → Says v End 0 (Some a) None → Words-of (Sofar us) us p (set words p v)
 ended us words gs q p a v x g h s = record {
   last = sym (g .count);
   units = λ j l.
-    let d = g .laid j l in
-    let ne : j ≢ p = omega arith in
-    record {
-      first = d .first;
-      second = d .second;
-      says = subst (λ z. Says z (kind-of (getD us j Close)) (byte-of (getD us j Close)) (d .first) (d .second)) (sym (getD-set-other words p j v 0 ne)) (d .says);
-      predecessors = d .predecessors;
-    };
+      let d = g .laid j l in
+      let ne : j ≢ p = omega arith in
+      record {
+        first = d .first;
+        second = d .second;
+        says = subst (λ z. Says z (kind-of (getD us j Close)) (byte-of (getD us j Close)) (d .first) (d .second)) (sym (getD-set-other words p j v 0 ne)) (d .says);
+        predecessors = d .predecessors;
+      };
   end = record { first = Some a; second = None; says = subst (λ z. Says z End 0 (Some a) None) (sym (getD-set-same words p v 0 h)) s; predecessors = g .ahead };
 }
 
 pub finished : (b l : Builder) (v : ℕ) → Laid-down b Close (Opened-last b .bar) l → Says v End 0 (Some (b .count)) None → b .count < most-units + 2
-  → (us : List PatternUnit) (x : Before) → Stands b us [] x → Words-of (Sofar (framed us)) (framed us) (l .count) (set (l .words) (l .count) v)
+    → (us : List PatternUnit) (x : Before) → Stands b us [] x → Words-of (Sofar (framed us)) (framed us) (l .count) (set (l .words) (l .count) v)
 finished b l v e f h us x s =
     let long = s .long in
     let (gs, g, fr, d, n) = top b us x 0 (s .open-groups) (s .grown) (s .listed) (s .depth) (s .opens) in
     let w = set (b .words) (b .count) (e .word) in
     let g2 = grown-close g w
-      (writes-over (b .words) (b .start) (b .count) Close (firsts (b .front) (Opened-last b .bar)) (seconds (b .front) (Opened-last b .bar)) (e .word) ⊥ (omega arith) (e .says) (λ z. z)) in
+    (writes-over (b .words) (b .start) (b .count) Close (firsts (b .front) (Opened-last b .bar)) (seconds (b .front) (Opened-last b .bar)) (e .word) ⊥ (omega arith) (e .says) (λ z. z)) in
     let len = length-set (b .words) (b .count) (e .word) in
     let core : Words-of (Sofar (framed us)) (framed us) (suc (b .count)) (set w (suc (b .count)) v) =
-      ended (framed us) w gs (Opened-last b .opened) (suc (b .count)) (b .count) v operand g2 (omega arith) f in
+    ended (framed us) w gs (Opened-last b .opened) (suc (b .count)) (b .count) v operand g2 (omega arith) f in
     subst (λ z. Words-of (Sofar (framed us)) (framed us) (z .count) (set (z .words) (z .count) v)) (sym (e .is))
     (subst (λ z. Words-of (Sofar (framed us)) (framed us) z (set w z v)) (sym (add-one (b .count))) core)
 
@@ -81,7 +81,7 @@ pub tabled : (t : Tree alternatives) (us : List PatternUnit) (n : ℕ) (words : 
 tabled t us n words f e = record {
   last = let l = e .last in let g : length us ≡ length (units t) = ap length (sym f) in omega (arith, length-append us (Close ∷ []));
   words-of = words-as (Sofar (units (group t))) (Links-of t) (linked-link t) (link-linked t) (units (group t)) n words
-    (subst (λ z. Words-of (Sofar (framed z)) (framed z) n words) (sym f) e);
+      (subst (λ z. Words-of (Sofar (framed z)) (framed z) n words) (sym f) e);
 }
 
 pub ruled-at : (bytes : List ℕ) (us : List PatternUnit) (x : Before) (n : ℕ) (words : List ℕ) → Reads bytes us [] x → Words-of (Sofar (framed us)) (framed us) n words → Rule-of bytes n words
@@ -91,7 +91,7 @@ ruled-at bytes us x n words r e =
 
 module _ (bytes : List ℕ) (b : Builder) (r : Read-to bytes b) where
   pub ruled : (n : ℕ) (words : List ℕ) → b .depth ≡ 1
-    → ((us : List PatternUnit) (x : Before) → Stands b us [] x → Words-of (Sofar (framed us)) (framed us) n words) → Rule-of bytes n words
+      → ((us : List PatternUnit) (x : Before) → Stands b us [] x → Words-of (Sofar (framed us)) (framed us) n words) → Rule-of bytes n words
   ruled n words h f = at-os (r .os) (r .reads) (r .stands)
     where
       at-os : (os : List ℕ) → Reads bytes (r .us) os (r .x) → Stands b (r .us) os (r .x) → Rule-of bytes n words

@@ -16,6 +16,7 @@ use Rattle.syntax.specs.declared.PatternUnit.{PatternUnit}
 use Rattle.syntax.specs.declared.Sign.the-variants.{Opt, Plus, Star}
 use Rattle.syntax.specs.declared.Sign.{Sign as Repetition}
 use lib.ListN.{getD, length, set}
+use mathlib.Core.Bool.{Bool, false, true}
 use mathlib.Core.List.{List, [], _++_, _∷_}
 use mathlib.Core.Path.{_≡_}
 
@@ -93,3 +94,9 @@ abbrev pub skip-of : Repetition → ℕ → Option ℕ
 skip-of Star q = Some q
 skip-of Plus q = None
 skip-of Opt q = Some q
+
+-- whether a repeat sign leads back
+abbrev pub loops-back : Repetition → Bool
+loops-back Star = true
+loops-back Plus = true
+loops-back Opt = false

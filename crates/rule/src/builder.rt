@@ -2,13 +2,11 @@
 
 ghost use Prim.Native.Nat.{ℕ, _%_, _+_, _-_, _<_, _≤_};
 ghost use Rattle.language.specs.Faults.{Before, Refused, operand, sign as after-sign, start};
-ghost use Rattle.language.specs.Links.{Loops};
 ghost use Rattle.rule.specs.Growing.{Sofar};
-ghost use Rattle.rule.specs.Standing.{Laid-down, Opened-last, Ready, Room, Stands, Took, blank, skip-of};
+ghost use Rattle.rule.specs.Standing.{Laid-down, Opened-last, Ready, Room, Stands, Took, loops-back, skip-of};
 ghost use Rattle.rule.specs.Tables.{Words-of};
 ghost use Rattle.rule.specs.Words.{Position};
 ghost use Rattle.std.specs.Options.{Cases as BySome};
-ghost use Rattle.std.specs.Orderings.{When};
 ghost use Rattle.std.specs.Results.{Cases};
 ghost use Rattle.syntax.specs.Stops.{stop-number};
 ghost use Rattle.syntax.specs.declared.PatternUnit.the-variants.{Bar, Close, Open, Plain, Repeat};
@@ -17,7 +15,6 @@ ghost use Rattle.language.specs.Limits.{most-groups, most-units};
 ghost use lib.ListN.{getD, length};
 ghost use mathlib.Core.List.{List, [], _++_, _∷_};
 ghost use mathlib.Core.Path.{_≡_};
-
 use crate::MOST_GROUPS;
 use crate::MOST_UNITS;
 use crate::table::POSITIONS;
@@ -82,9 +79,12 @@ fn skipped_from(sign: Sign, start: u16) -> Option<u16>
 
 /// Whether a repeat sign links back to its operand.
 fn leads_back(sign: Sign) -> bool
-    ensures { λ r. ⌜ When r (Loops sign) (Loops sign → ⊥) ⌝ }
+    ensures { λ r. ⌜ r ≡ loops-back sign ⌝ }
 {
-    matches!(sign, Sign::Star | Sign::Plus)
+    match sign {
+        Sign::Star | Sign::Plus => true,
+        Sign::Opt => false,
+    }
 }
 
 impl Builder {
@@ -93,11 +93,20 @@ impl Builder {
         ensures { λ r. ⌜ Stands r [] [] start ⌝ }
     {
         let mut words = [0; POSITIONS];
-        words[0] = Entry { kind: Kind::Open, byte: 0, first: None, second: None }.word();
+        words[0] = Entry {
+            kind: Kind::Open,
+            byte: 0,
+            first: None,
+            second: None,
+        }.word();
         Builder {
             words,
             count: 1,
-            groups: [Group { opened: 0, bar: None, place: 0 }; LEVELS],
+            groups: [Group {
+                opened: 0,
+                bar: None,
+                place: 0,
+            }; LEVELS],
             depth: 1,
             front: Some(0),
             start: 0,
@@ -110,7 +119,10 @@ impl Builder {
         ensures { λ r. ⌜ Cases r (λ _. now (self .entry) .count ≤ most-units) (λ f. (most-units < now (self .entry) .count) × (stop-number (f .stop) ≡ 1) × (f .place ≡ place)) ⌝ }
     {
         if self.count > MOST_UNITS {
-            return Err(Fault { stop: Stop::TooLong, place });
+            return Err(Fault {
+                stop: Stop::TooLong,
+                place,
+            });
         }
         Ok(())
     }
@@ -121,7 +133,12 @@ impl Builder {
         ensures { λ _. ⌜ Laid-down (now (self .entry)) unit own (now (self .exit)) ⌝ }
     {
         let (first, second) = in_order(self.front, own);
-        let entry = Entry { kind: Kind::of_unit(unit), byte: byte(unit), first, second };
+        let entry = Entry {
+            kind: Kind::of_unit(unit),
+            byte: byte(unit),
+            first,
+            second,
+        };
         self.words[self.count as usize] = entry.word();
         self.count += 1;
     }
@@ -145,7 +162,11 @@ impl Builder {
     {
         let position = self.count;
         self.lay(PatternUnit::Open, None);
-        self.groups[self.depth] = Group { opened: position, bar: None, place };
+        self.groups[self.depth] = Group {
+            opened: position,
+            bar: None,
+            place,
+        };
         self.depth += 1;
         self.front = Some(position);
         self.start = position;
@@ -158,11 +179,11 @@ impl Builder {
         ensures { λ _. ⌜ ((us : List Written) (o : ℕ) (os : List ℕ) (x : Before) → Stands (now (self .entry)) us (o ∷ os) x → Stands (now (self .exit)) (us ++ (Close ∷ [])) os operand) ⌝ }
     {
         let position = self.count;
-        let group = self.groups[self.depth - 1];
-        self.lay(PatternUnit::Close, group.bar);
+        let closed = self.groups[self.depth - 1];
+        self.lay(PatternUnit::Close, closed.bar);
         self.depth -= 1;
         self.front = Some(position);
-        self.start = group.opened;
+        self.start = closed.opened;
         self.last = Last::Operand;
     }
 
@@ -207,20 +228,32 @@ impl Builder {
             PatternUnit::Plain(letter) => self.letter(letter),
             PatternUnit::Open => {
                 if self.depth > MOST_GROUPS {
-                    return Err(Fault { stop: Stop::TooDeep, place });
+                    return Err(Fault {
+                        stop: Stop::TooDeep,
+                        place,
+                    });
                 }
                 self.open_group(place);
             }
             PatternUnit::Bar => self.bar(),
             PatternUnit::Close => {
                 if self.depth <= 1 {
-                    return Err(Fault { stop: Stop::NothingOpen, place });
+                    return Err(Fault {
+                        stop: Stop::NothingOpen,
+                        place,
+                    });
                 }
                 self.close_group();
             }
             PatternUnit::Repeat(sign) => match self.last {
-                Last::Start => return Err(Fault { stop: Stop::NoOperand, place }),
-                Last::Sign => return Err(Fault { stop: Stop::SignAfterSign, place }),
+                Last::Start => return Err(Fault {
+                    stop: Stop::NoOperand,
+                    place,
+                }),
+                Last::Sign => return Err(Fault {
+                    stop: Stop::SignAfterSign,
+                    place,
+                }),
                 Last::Operand => self.repeat(sign),
             },
         }
@@ -232,7 +265,11 @@ impl Builder {
         requires { ⌜ 0 < (now self) .depth ⌝ ∗ ⌜ (now self) .depth ≤ most-groups + 1 ⌝ }
         ensures { λ r. ⌜ BySome r (now (self .entry) .depth ≡ 1) (λ p. (1 < now (self .entry) .depth) × (p ≡ Opened-last (now (self .entry)) .place)) ⌝ }
     {
-        if self.depth > 1 { Some(self.groups[self.depth - 1].place) } else { None }
+        if self.depth > 1 {
+            Some(self.groups[self.depth - 1].place)
+        } else {
+            None
+        }
     }
 
     /// Adds the CLOSE and the END.
@@ -241,10 +278,18 @@ impl Builder {
         ensures { λ r. ⌜ ((us : List Written) (x : Before) → Stands self us [] x → Words-of (Sofar (Open ∷ (us ++ (Close ∷ [])))) (Open ∷ (us ++ (Close ∷ []))) (r .last) (r .words)) ⌝ }
     {
         let position = self.count;
-        let group = self.groups[self.depth - 1];
-        self.lay(PatternUnit::Close, group.bar);
-        let end = Entry { kind: Kind::End, byte: 0, first: Some(position), second: None };
+        let whole = self.groups[self.depth - 1];
+        self.lay(PatternUnit::Close, whole.bar);
+        let end = Entry {
+            kind: Kind::End,
+            byte: 0,
+            first: Some(position),
+            second: None,
+        };
         self.words[self.count as usize] = end.word();
-        Rule { words: self.words, last: self.count }
+        Rule {
+            words: self.words,
+            last: self.count,
+        }
     }
 }

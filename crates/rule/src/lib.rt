@@ -12,7 +12,6 @@ ghost use Rattle.std.specs.Options.{Cases as BySome};
 ghost use Rattle.std.specs.Results.{Cases};
 ghost use Rattle.syntax.specs.Stops.{stop-number};
 ghost use mathlib.Core.Path.{_≡_};
-
 use builder::Builder;
 use syntax::Fault;
 use syntax::Reader;
@@ -34,8 +33,8 @@ fn read_units(pattern: &[u8]) -> Result<Builder, Fault>
 {
     let mut reader = Reader::new(pattern);
     let mut builder = Builder::new();
-    while !reader.is_at_end() {
-        builder.admit(reader.place())?;
+    while let Some(place) = reader.next_place() {
+        builder.admit(place)?;
         if let Some(placed) = reader.next_unit()? {
             builder.take(placed)?;
         }
@@ -50,7 +49,10 @@ pub fn read(pattern: &[u8]) -> Result<Rule, Fault>
 {
     let builder = read_units(pattern)?;
     if let Some(place) = builder.open_place() {
-        return Err(Fault { stop: Stop::LeftOpen, place });
+        return Err(Fault {
+            stop: Stop::LeftOpen,
+            place,
+        });
     }
     Ok(builder.finish())
 }
@@ -71,5 +73,4 @@ pub fn load(slot: &mut Option<Rule>, pattern: &[u8]) -> Result<u16, Fault>
 /// The table of a pattern is settled: its length, and every word of it.
 pub fn each_pattern_has_one_table()
     ensures { λ _. ⌜ Each-pattern-has-one-table ⌝ }
-{
-}
+{}

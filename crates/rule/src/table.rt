@@ -7,7 +7,6 @@ ghost use Rattle.std.specs.Options.{Cases};
 ghost use lib.ListN.{getD};
 ghost use mathlib.Core.Logic.{_⊎_};
 ghost use mathlib.Core.Path.{_≡_};
-
 use crate::MOST_UNITS;
 use crate::word::Entry;
 

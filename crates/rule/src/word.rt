@@ -6,7 +6,6 @@ ghost use Rattle.std.specs.Options.{Cases};
 ghost use Rattle.std.specs.declared.option.Option.the-variants.{None, Some};
 ghost use Rattle.std.specs.declared.option.Option.{Option as Maybe};
 ghost use mathlib.Core.Path.{_≡_};
-
 use std::fmt;
 use syntax::Letter;
 use syntax::PatternUnit;
@@ -135,7 +134,11 @@ fn predecessor(field: u32) -> Option<u16>
     requires { ⌜ field < 1024 ⌝ }
     ensures { λ r. ⌜ Holds field r ⌝ }
 {
-    if field == ABSENT { None } else { Some(field as u16) }
+    if field == ABSENT {
+        None
+    } else {
+        Some(field as u16)
+    }
 }
 
 impl Entry {
@@ -154,7 +157,12 @@ impl Entry {
     {
         let kind = Kind::of_number(word / 0x1000_0000)?;
         let byte = ((word / 0x10_0000) % 0x100) as u8;
-        Some(Entry { kind, byte, first: predecessor((word / 0x400) % 0x400), second: predecessor(word % 0x400) })
+        Some(Entry {
+            kind,
+            byte,
+            first: predecessor((word / 0x400) % 0x400),
+            second: predecessor(word % 0x400),
+        })
     }
 }
 

@@ -10,7 +10,6 @@ ghost use lib.ListN.{length};
 ghost use mathlib.Core.List.{List, [], _∷_};
 ghost use mathlib.Core.Logic.{_⊎_};
 ghost use mathlib.Core.Path.{_≡_};
-
 use std::fmt;
 
 /// What takes one byte of a frame: a byte, or the period.
@@ -210,18 +209,15 @@ impl<'a> Reader<'a> {
         Reader { pattern, place: 0 }
     }
 
-    /// The place that the pattern is read to.
-    pub fn place(&self) -> usize
-        ensures { λ r. ⌜ r ≡ (now (self .entry)) .place ⌝ }
+    /// The place of the next unit; none where every byte of the pattern is read.
+    pub fn next_place(&self) -> Option<usize>
+        ensures { λ r. ⌜ BySome r (length (now ((now (self .entry)) .pattern)) ≤ (now (self .entry)) .place) (λ p. (p ≡ (now (self .entry)) .place) × (p < length (now ((now (self .entry)) .pattern)))) ⌝ }
     {
-        self.place
-    }
-
-    /// Whether every byte of the pattern is read.
-    pub fn is_at_end(&self) -> bool
-        ensures { λ r. ⌜ When r (length (now ((now (self .entry)) .pattern)) ≤ (now (self .entry)) .place) ((now (self .entry)) .place < length (now ((now (self .entry)) .pattern))) ⌝ }
-    {
-        self.place >= self.pattern.len()
+        if self.place < self.pattern.len() {
+            Some(self.place)
+        } else {
+            None
+        }
     }
 
     /// The next unit with its place, and nothing at the end; stop 2 where the bytes begin no unit.

@@ -9,8 +9,8 @@ use lib.ListN.{drop, length}
 use mathlib.Core.Path.{_≡_, refl, subst, _∙_}
 use native.Mathlib.Omega.{arith}
 
-pub loop-reader-holds : need.loop-reader-holds
-loop-reader-holds c = (
+pub loop-place-holds : need.loop-place-holds
+loop-place-holds c = (
   c .new-reader .ensures .0,
   (let e = c .new-reader .ensures .1 in omega arith),
   first-round (c .args .pattern .now) (c .new-reader .result .place) (c .new-builder .result) (c .new-reader .ensures .1) (c .new-builder .ensures),
@@ -18,60 +18,60 @@ loop-reader-holds c = (
 
 pub returns-in-Break-admit : need.returns-in-Break-admit
 returns-in-Break-admit c =
-    let (same, low, r) = c .loop-reader .inv in
+    let (same, low, r) = c .loop-place .inv in
     let (many, number, place) = c .in-Break-admit .ensures tt in
     let xs = c .args .pattern .now in
-    let at = c .loop-reader .reader .place in
-    let l : at < length xs = subst (λ z. at < length z) same (c .loop-reader-test .ensures tt) in
+    let at = c .loop-place .reader .place in
+    let (here, inside) = c .in-Some .ensures tt in
+    let l : at < length xs = subst (λ z. z < length xs) here (subst (λ z. c .in-Some .place < length z) same inside) in
     let p = err-from-errBy (c .from-residual .result) (c .from-residual .ensures .1) in
-    rw (p .1, p .2) (fault-as xs 1 at (c .in-Break-admit .field-0 .0) number (place ∙ c .place .ensures) (long-fault xs at low (c .loop-reader .builder) r l many))
+    rw (p .1, p .2) (fault-as xs 1 at (c .in-Break-admit .field-0 .0) number (place ∙ here) (long-fault xs at low (c .loop-place .builder) r l many))
 
 pub returns-in-Break-placed : need.returns-in-Break-placed
 returns-in-Break-placed c =
-    let (same, low, r) = c .loop-reader .inv in
+    let (same, low, r) = c .loop-place .inv in
     let (f, _) = c .in-Break-placed .ensures tt .reads in
     let xs = c .args .pattern .now in
-    let at = c .loop-reader .reader .place in
+    let at = c .loop-place .reader .place in
     let stuck : Stuck (drop at xs) = subst (λ z. Stuck (drop at z)) same (f .stuck) in
     let p = err-from-errBy (c .from-residual-in-Break-placed .result) (c .from-residual-in-Break-placed .ensures .1) in
     rw (p .1, p .2)
-    (fault-as xs 2 at (c .in-Break-placed .field-0 .0) (f .number) (f .place) (no-unit-fault xs at low (c .loop-reader .builder) r (c .in-Continue-admit .ensures tt) stuck))
+    (fault-as xs 2 at (c .in-Break-placed .field-0 .0) (f .number) (f .place) (no-unit-fault xs at low (c .loop-place .builder) r (c .in-Continue-admit .ensures tt) stuck))
 
-read-one : (c : need.In-Continue-take) → (c .in-Some .placed .place ≡ c .loop-reader .reader .place) × Passed (c .args .pattern .now) (c .loop-reader .reader .place) (c .in-Some .placed .unit) (c .next-unit .last .self .place)
-read-one c = passes (c .loop-reader .reader .place) (c .next-unit .last .self .place) (c .loop-reader .inv .0) (c .in-Some .is) (c .in-Continue-placed .ensures tt .reads)
+read-one : (c : need.In-Continue-take) → (c .in-Some-2 .placed .place ≡ c .loop-place .reader .place) × Passed (c .args .pattern .now) (c .loop-place .reader .place) (c .in-Some-2 .placed .unit) (c .next-unit .last .self .place)
+read-one c = passes (c .loop-place .reader .place) (c .next-unit .last .self .place) (c .loop-place .inv .0) (c .in-Some-2 .is) (c .in-Continue-placed .ensures tt .reads)
 
-pub loop-reader-less-in-Continue·-branch-4 : need.loop-reader-less-in-Continue·-branch-4
-loop-reader-less-in-Continue·-branch-4 c =
+pub loop-place-less-in-Continue·-branch-4 : need.loop-place-less-in-Continue·-branch-4
+loop-place-less-in-Continue·-branch-4 c =
     let w = read-one c .1 in
-    let h = passed-on (c .args .pattern .now) (c .loop-reader .reader .place) (c .in-Some .placed .unit) (c .next-unit .last .self .place) w in
+    let h = passed-on (c .args .pattern .now) (c .loop-place .reader .place) (c .in-Some-2 .placed .unit) (c .next-unit .last .self .place) w in
     let k = w .within in
     omega arith
 
-pub loop-reader-again-in-Continue·-branch-4 : need.loop-reader-again-in-Continue·-branch-4
-loop-reader-again-in-Continue·-branch-4 c =
-    let (same, low, r) = c .loop-reader .inv in
+pub loop-place-again-in-Continue·-branch-4 : need.loop-place-again-in-Continue·-branch-4
+loop-place-again-in-Continue·-branch-4 c =
+    let (same, low, r) = c .loop-place .inv in
     let (place, w) = read-one c in
-    let took = c .in-Continue-take .ensures tt (r .us) (r .os) (r .x) (r .stands) in
-    (
+    let took = c .in-Continue-take .ensures tt (r .us) (r .os) (r .x) (r .stands) in (
       c .in-Continue-placed .ensures tt .same ∙ same,
       w .within,
-      next-round (c .args .pattern .now) (c .loop-reader .reader .place) low (c .loop-reader .builder) (c .take .last .self) (c .in-Some .placed .unit) (c .next-unit .last .self .place) r
-      (c .in-Continue-admit .ensures tt) w (subst (λ z. Took (c .take .last .self) (c .in-Some .placed .unit) z (r .us) (r .os) (r .x)) place took),
+      next-round (c .args .pattern .now) (c .loop-place .reader .place) low (c .loop-place .builder) (c .take .last .self) (c .in-Some-2 .placed .unit) (c .next-unit .last .self .place) r
+          (c .in-Continue-admit .ensures tt) w (subst (λ z. Took (c .take .last .self) (c .in-Some-2 .placed .unit) z (r .us) (r .os) (r .x)) place took),
     )
 
 pub returns-in-Break-take : need.returns-in-Break-take
 returns-in-Break-take c =
-    let (same, low, r) = c .loop-reader .inv in
+    let (same, low, r) = c .loop-place .inv in
     let xs = c .args .pattern .now in
-    let at = c .loop-reader .reader .place in
-    let (place, w) = passes at (c .next-unit .last .self .place) same (c .in-Some .is) (c .in-Continue-placed .ensures tt .reads) in
+    let at = c .loop-place .reader .place in
+    let (place, w) = passes at (c .next-unit .last .self .place) same (c .in-Some-2 .is) (c .in-Continue-placed .ensures tt .reads) in
     let (f, e) = c .in-Break-take .ensures tt (r .us) (r .os) (r .x) (r .stands) in
     let p = err-from-errBy (c .from-residual-in-Break-take .result) (c .from-residual-in-Break-take .ensures .1) in
     rw (p .1, p .2)
     (fault-as xs _ at (c .in-Break-take .field-0 .0) refl (e ∙ place)
-    (unit-fault xs at low (c .loop-reader .builder) r (c .in-Some .placed .unit) (c .next-unit .last .self .place) _ (c .in-Continue-admit .ensures tt) w f))
+    (unit-fault xs at low (c .loop-place .builder) r (c .in-Some-2 .placed .unit) (c .next-unit .last .self .place) _ (c .in-Continue-admit .ensures tt) w f))
 
 pub returns : need.returns
 returns c =
-    let (same, low, r) = c .loop-reader .inv in
-    last-round (c .args .pattern .now) (c .loop-reader .reader .place) (c .loop-reader .builder) (subst (λ z. length z ≤ c .loop-reader .reader .place) same (c .loop-reader-test .ensures tt)) r
+    let (same, low, r) = c .loop-place .inv in
+    last-round (c .args .pattern .now) (c .loop-place .reader .place) (c .loop-place .builder) (subst (λ z. length z ≤ c .loop-place .reader .place) same (c .in-rest .ensures tt)) r

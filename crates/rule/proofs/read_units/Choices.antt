@@ -4,9 +4,9 @@ use Rattle.rule.specs.Standing.{Read-to}
 use lib.ListN.{length, take}
 use mathlib.Core.Path.{_≡_}
 
-abbrev pub Inv-loop-reader : given.InvT-loop-reader
-Inv-loop-reader l =
+abbrev pub Inv-loop-place : given.InvT-loop-place
+Inv-loop-place l =
     (l .reader .pattern .now ≡ l .pattern) × (l .reader .place ≤ length (l .pattern)) × Read-to (take (l .reader .place) (l .pattern)) (l .builder)
 
-abbrev pub μ-loop-reader : given.MeasureT-loop-reader
-μ-loop-reader l = length (l .pattern) - l .reader .place
+abbrev pub μ-loop-place : given.MeasureT-loop-place
+μ-loop-place l = length (l .pattern) - l .reader .place
