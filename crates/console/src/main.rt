@@ -11,11 +11,11 @@ use rule::load;
 use std::io;
 use std::io::BufRead;
 use std::io::BufReader;
+use stops::StopDisplay;
 use syntax::Letter;
 use syntax::PatternUnit;
 use syntax::Placed;
 use syntax::Reader;
-use syntax::StopDisplay;
 
 /// Prints bytes as they are, and those that are no printable ASCII as the escapes of a pattern.
 fn show_bytes(rt: &LibcRuntime, bytes: &[u8]) -> io::Result<()> {

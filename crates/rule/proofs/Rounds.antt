@@ -12,7 +12,7 @@ use Rattle.std.specs.declared.result.Result.the-variants.{Ok}
 use Rattle.syntax.proofs.Spelled.{split-1}
 use Rattle.syntax.specs.Reading.{Next, Passed}
 use Rattle.syntax.specs.Spelling.{Stuck}
-use Rattle.syntax.specs.Stops.{stop-number}
+use Rattle.stops.specs.Stops.{stop-number}
 use Rattle.syntax.specs.declared.Fault.{Fault}
 use Rattle.syntax.specs.declared.PatternUnit.{PatternUnit}
 use Rattle.syntax.specs.declared.Placed.{Placed}

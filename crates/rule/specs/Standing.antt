@@ -1,6 +1,6 @@
 -- How a builder stands to the units that it has taken.
 use Prim.Native.Nat.{ℕ, suc, _+_, _-_, _<_, _≤_}
-use Rattle.language.specs.Faults.{Before, Goes, Reads, operand, sign, start}
+use Rattle.language.specs.Faults.{Before, Goes, Reads, Refused, operand, sign, start}
 use Rattle.language.specs.LeftToRight.{Open-group}
 use Rattle.language.specs.Limits.{most-groups, most-units}
 use Rattle.rule.specs.Growing.{Grown}
@@ -11,13 +11,20 @@ use Rattle.rule.specs.declared.builder.Last.the-variants.{Operand, Sign, Start
 use Rattle.rule.specs.declared.builder.Last.{Last}
 use Rattle.std.specs.declared.option.Option.the-variants.{None, Some}
 use Rattle.std.specs.declared.option.Option.{Option}
+use Rattle.std.specs.declared.result.Result.the-variants.{Err, Ok}
+use Rattle.std.specs.declared.result.Result.{Result}
+use Rattle.syntax.specs.Reading.{Next}
+use Rattle.stops.specs.Stops.{stop-number}
+use Rattle.syntax.specs.declared.Fault.{Fault}
 use Rattle.syntax.specs.declared.PatternUnit.the-variants.{Open}
 use Rattle.syntax.specs.declared.PatternUnit.{PatternUnit}
+use Rattle.syntax.specs.declared.Placed.{Placed}
 use Rattle.syntax.specs.declared.Sign.the-variants.{Opt, Plus, Star}
 use Rattle.syntax.specs.declared.Sign.{Sign as Repetition}
 use lib.ListN.{getD, length, set}
 use mathlib.Core.Bool.{Bool, false, true}
 use mathlib.Core.List.{List, [], _++_, _∷_}
+use mathlib.Core.Logic.{_⊎_}
 use mathlib.Core.Path.{_≡_}
 
 abbrev pub before-of : Last → Before
@@ -76,6 +83,17 @@ pub record Ready (b : Builder) : Type 0 where
 -- what becomes of a builder that is given the unit u at a place
 abbrev pub Took : Builder → PatternUnit → ℕ → List PatternUnit → List ℕ → Before → Type 0
 Took b′ u place us os x = (os′ : List ℕ) × (x′ : Before) × Goes place u os x os′ x′ × Stands b′ (us ++ (u ∷ [])) os′ x′
+
+-- what a builder answers to a unit at its place, and what becomes of it
+abbrev pub Answers : Placed → List PatternUnit → List ℕ → Before → Result (Unit {0}) Fault → Builder → Type 0
+Answers p us os x (Ok done) b′ = Took b′ (p .unit) (p .place) us os x
+Answers p us os x (Err f) b′ = Refused (p .unit) os x (stop-number (f .stop)) × (f .place ≡ p .place)
+
+-- what is answered where a builder of this count asks for the unit at the place p: 1 comes before 2
+abbrev pub Next-within : ℕ → ℕ → List ℕ → ℕ → Result (Option Placed) Fault → ℕ → Type 0
+Next-within count place bytes p (Ok o) p′ = (count ≤ most-units) × Next bytes p (Ok o) p′
+Next-within count place bytes p (Err f) p′ =
+    ((most-units < count) × (stop-number (f .stop) ≡ 1) × (f .place ≡ place)) ⊎ ((count ≤ most-units) × Next bytes p (Err f) p′)
 
 -- the bytes read without a fault, and the builder stands to their units
 pub record Read-to (bytes : List ℕ) (b : Builder) : Type 0 where

@@ -1,15 +1,24 @@
 -- The rule table of a pattern.
 use Prim.Native.Nat.{ℕ, _+_, _<_, _≤_}
+use Rattle.language.specs.Faults.{Faulty}
+use Rattle.language.specs.Limits.{most-units}
 use Rattle.language.specs.Links.{Links-of, Predecessors}
 use Rattle.language.specs.Patterns.{Accepted, Tree, alternatives, group, units}
 use Rattle.rule.specs.Words.{Says, byte-of, kind-of}
+use Rattle.rule.specs.declared.table.Rule.{Rule}
 use Rattle.rule.specs.declared.word.Kind.the-variants.{End}
 use Rattle.rule.specs.declared.word.Kind.{Kind}
+use Rattle.std.specs.declared.option.Option.the-variants.{Some}
 use Rattle.std.specs.declared.option.Option.{Option}
+use Rattle.std.specs.declared.result.Result.the-variants.{Err, Ok}
+use Rattle.std.specs.declared.result.Result.{Result}
+use Rattle.stops.specs.Stops.{stop-number}
+use Rattle.syntax.specs.declared.Fault.{Fault}
 use Rattle.syntax.specs.declared.PatternUnit.the-variants.{Close}
 use Rattle.syntax.specs.declared.PatternUnit.{PatternUnit}
 use lib.ListN.{getD, length}
 use mathlib.Core.List.{List}
+use mathlib.Core.Logic.{_⊎_}
 use mathlib.Core.Path.{_≡_}
 
 -- the word at position j says this kind and byte, and the positions that link to j
@@ -34,6 +43,15 @@ pub record Table-of (t : Tree alternatives) (n : ℕ) (words : List ℕ) : Type 
 pub record Rule-of (bytes : List ℕ) (n : ℕ) (words : List ℕ) : Type 0 where
   pub accepted : Accepted bytes
   pub table : Table-of (accepted .tree) n words
+
+-- a rule has no word for the position j: it is past the last one, or past the memory
+abbrev pub No-word : Rule → ℕ → Type 0
+No-word rule j = (rule .last < j) ⊎ (most-units + 3 ≤ j)
+
+-- what loading a pattern into a slot answers, and what the slot holds before and after
+abbrev pub Loads : List ℕ → Option Rule → Result ℕ Fault → Option Rule → Type 0
+Loads bytes before (Ok n) after = (rule : Rule) × (after ≡ Some rule) × (rule .last ≡ n) × Rule-of bytes n (rule .words)
+Loads bytes before (Err f) after = Faulty bytes (stop-number (f .stop)) (f .place) × (after ≡ before)
 
 -- all tables of a pattern end at one position, and have the same words up to it
 abbrev pub Each-pattern-has-one-table : Type 0

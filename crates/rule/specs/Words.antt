@@ -43,10 +43,14 @@ byte-of Bar = 0
 byte-of Close = 0
 byte-of (Repeat g) = 0
 
--- ten bits hold a position, or 1,023 for none
+-- what stands in a field for a predecessor that is absent
+abbrev pub absent : ℕ
+absent = 1023
+
+-- ten bits hold a position, or the mark of an absent one
 abbrev pub Holds : ℕ → Option ℕ → Type 0
-Holds field None = field ≡ 1023
-Holds field (Some i) = (field ≡ i) × (i < 1023)
+Holds field None = field ≡ absent
+Holds field (Some i) = (field ≡ i) × (i < absent)
 
 -- The word says this: its bits 31 to 28 are the kind, 27 to 20 the byte, 19 to 10 and 9 to 0 the two predecessors.
 pub record Says (word : ℕ) (kind : Kind) (byte : ℕ) (first second : Option ℕ) : Type 0 where
@@ -62,7 +66,7 @@ No-kind word = (k : Kind) → kind-number k ≡ word / 0x1000_0000 → ⊥
 -- a position of the table, or none
 abbrev pub Position : Option ℕ → Type 0
 Position None = Unit {0}
-Position (Some i) = i < 1023
+Position (Some i) = i < absent
 
 -- the smaller first, an only one first
 abbrev pub firsts : Option ℕ → Option ℕ → Option ℕ

@@ -1,14 +1,17 @@
 //! The table as it grows unit by unit, with the groups that are open.
 
 ghost use Prim.Native.Nat.{ℕ, _%_, _+_, _-_, _<_, _≤_};
-ghost use Rattle.language.specs.Faults.{Before, Refused, operand, sign as after-sign, start};
+ghost use Rattle.language.specs.Answers.{No-fault, Only-fault};
+ghost use Rattle.language.specs.Faults.{Before, Faulty, operand, sign as after-sign, start};
 ghost use Rattle.rule.specs.Growing.{Sofar};
-ghost use Rattle.rule.specs.Standing.{Laid-down, Opened-last, Ready, Room, Stands, Took, loops-back, skip-of};
-ghost use Rattle.rule.specs.Tables.{Words-of};
-ghost use Rattle.rule.specs.Words.{Position};
+ghost use Rattle.rule.specs.Standing.{Answers, Laid-down, Next-within, Opened-last, Read-to, Ready, Room, Stands, Took, loops-back, skip-of};
+ghost use Rattle.rule.specs.Tables.{Rule-of, Words-of};
+ghost use Rattle.rule.specs.Words.{Holds, Position, Says, Under, absent, byte-of, firsts, seconds};
 ghost use Rattle.std.specs.Options.{Cases as BySome};
 ghost use Rattle.std.specs.Results.{Cases};
-ghost use Rattle.syntax.specs.Stops.{stop-number};
+ghost use Rattle.std.specs.declared.option.Option.the-variants.{None, Some};
+ghost use Rattle.std.specs.declared.option.Option.{Option as Maybe};
+ghost use Rattle.stops.specs.Stops.{stop-number};
 ghost use Rattle.syntax.specs.declared.PatternUnit.the-variants.{Bar, Close, Open, Plain, Repeat};
 ghost use Rattle.syntax.specs.declared.PatternUnit.{PatternUnit as Written};
 ghost use Rattle.language.specs.Limits.{most-groups, most-units};
@@ -19,29 +22,28 @@ use crate::MOST_GROUPS;
 use crate::MOST_UNITS;
 use crate::table::POSITIONS;
 use crate::table::Rule;
+use crate::word::ABSENT;
 use crate::word::Entry;
 use crate::word::Kind;
-use crate::word::byte;
-use crate::word::in_order;
-use crate::word::with_last;
+use stops::Stop;
 use syntax::Fault;
 use syntax::Letter;
 use syntax::PatternUnit;
 use syntax::Placed;
+use syntax::Reader;
 use syntax::Sign;
-use syntax::Stop;
 
 /// An open group: the position of its OPEN, its last BAR so far, and the place of its `(`.
 #[derive(Clone, Copy)]
-pub struct Group {
-    pub opened: u16,
-    pub bar: Option<u16>,
-    pub place: usize,
+struct Group {
+    opened: u16,
+    bar: Option<u16>,
+    place: usize,
 }
 
 /// What the last unit was to a repeat sign: nothing to repeat, an operand, or a repeat sign.
 #[derive(Clone, Copy)]
-pub enum Last {
+enum Last {
     Start,
     Operand,
     Sign,
@@ -52,23 +54,77 @@ const LEVELS: usize = MOST_GROUPS + 1;
 
 /// The words of the units so far, and what the units to come need to know of them.
 #[derive(Drop)]
-pub struct Builder {
-    pub words: [u32; POSITIONS],
+struct Builder {
+    words: [u32; POSITIONS],
     /// The next position: the units so far and the added OPEN.
-    pub count: u16,
-    pub groups: [Group; LEVELS],
+    count: u16,
+    groups: [Group; LEVELS],
     /// The open groups, the whole pattern among them.
-    pub depth: usize,
+    depth: usize,
     /// The one position so far that links to the next one.
-    pub front: Option<u16>,
+    front: Option<u16>,
     /// Where the operand of a repeat sign would start.
-    pub start: u16,
-    pub last: Last,
+    start: u16,
+    last: Last,
+}
+
+/// The byte of a unit that stands for one, else 0.
+fn byte(unit: PatternUnit) -> u8
+    ensures { λ r. ⌜ r ≡ byte-of unit ⌝ }
+{
+    match unit {
+        PatternUnit::Plain(Letter::Byte(b)) => b,
+        _ => 0,
+    }
+}
+
+/// A predecessor as ten bits.
+fn field(predecessor: Option<u16>) -> u32
+    requires { ⌜ Position predecessor ⌝ }
+    ensures { λ r. ⌜ Holds r predecessor ⌝ }
+{
+    match predecessor {
+        Some(position) => u32::from(position),
+        None => ABSENT,
+    }
+}
+
+/// The word of an entry.
+fn word_of(entry: Entry) -> u32
+    requires { ⌜ Position (entry .first) ⌝ ∗ ⌜ Position (entry .second) ⌝ }
+    ensures { λ r. ⌜ Says r (entry .kind) (entry .byte) (entry .first) (entry .second) ⌝ }
+{
+    let fields = field(entry.first) * 0x400 + field(entry.second);
+    entry.kind.number() * 0x1000_0000 + u32::from(entry.byte) * 0x10_0000 + fields
+}
+
+/// The two, the smaller first, an only one first.
+fn in_order(a: Option<u16>, b: Option<u16>) -> (Option<u16>, Option<u16>)
+    ensures { λ r. ⌜ (r .0 ≡ firsts a b) × (r .1 ≡ seconds a b) ⌝ }
+{
+    match (a, b) {
+        (Some(i), Some(j)) if i < j => (Some(i), Some(j)),
+        (Some(i), Some(j)) => (Some(j), Some(i)),
+        (Some(i), None) => (Some(i), None),
+        (None, _) => (b, None),
+    }
+}
+
+/// The word with one more predecessor, behind those that it has.
+fn with_last(old: u32, position: u16) -> u32
+    requires { ⌜ position < absent ⌝ ∗ ⌜ old % 0x400 ≡ absent ⌝ }
+    ensures { λ r. ⌜ ((kind : Kind) (byte : ℕ) (first : Maybe ℕ) → Under first position → Says old kind byte first None → Says r kind byte (firsts first (Some position)) (seconds first (Some position))) ⌝ }
+{
+    if (old / 0x400) % 0x400 == ABSENT {
+        old - ABSENT * 0x400 + u32::from(position) * 0x400
+    } else {
+        old - ABSENT + u32::from(position)
+    }
 }
 
 /// The position that a repeat sign is skipped from.
 fn skipped_from(sign: Sign, start: u16) -> Option<u16>
-    requires { ⌜ start < 1023 ⌝ }
+    requires { ⌜ start < absent ⌝ }
     ensures { λ r. ⌜ (r ≡ skip-of sign start) × Position r ⌝ }
 {
     match sign {
@@ -89,16 +145,16 @@ fn leads_back(sign: Sign) -> bool
 
 impl Builder {
     /// The added OPEN, and nothing else.
-    pub fn new() -> Builder
+    fn new() -> Builder
         ensures { λ r. ⌜ Stands r [] [] start ⌝ }
     {
         let mut words = [0; POSITIONS];
-        words[0] = Entry {
+        words[0] = word_of(Entry {
             kind: Kind::Open,
             byte: 0,
             first: None,
             second: None,
-        }.word();
+        });
         Builder {
             words,
             count: 1,
@@ -115,7 +171,7 @@ impl Builder {
     }
 
     /// Stop 1 at the place of a byte that follows the most units.
-    pub fn admit(&self, place: usize) -> Result<(), Fault>
+    fn admit(&self, place: usize) -> Result<(), Fault>
         ensures { λ r. ⌜ Cases r (λ _. now (self .entry) .count ≤ most-units) (λ f. (most-units < now (self .entry) .count) × (stop-number (f .stop) ≡ 1) × (f .place ≡ place)) ⌝ }
     {
         if self.count > MOST_UNITS {
@@ -125,6 +181,15 @@ impl Builder {
             });
         }
         Ok(())
+    }
+
+    /// The next unit of the pattern. Stop 1, for a byte behind the most units, comes before stop 2.
+    fn next_unit(&self, reader: &mut Reader<'_>, place: usize) -> Result<Option<Placed>, Fault>
+        ensures same { λ _. ⌜ now ((now (reader .exit)) .pattern) ≡ now ((now (reader .entry)) .pattern) ⌝ }
+        ensures reads { λ r. ⌜ Next-within (now (self .entry) .count) place (now ((now (reader .entry)) .pattern)) ((now (reader .entry)) .place) r ((now (reader .exit)) .place) ⌝ }
+    {
+        self.admit(place)?;
+        reader.next_unit()
     }
 
     /// Lays the word of a unit, to which the front and one more position link.
@@ -139,7 +204,7 @@ impl Builder {
             first,
             second,
         };
-        self.words[self.count as usize] = entry.word();
+        self.words[self.count as usize] = word_of(entry);
         self.count += 1;
     }
 
@@ -203,7 +268,7 @@ impl Builder {
 
     /// Takes a repeat sign behind its operand.
     fn repeat(&mut self, sign: Sign)
-        requires { ⌜ Room (now self) ⌝ ∗ ⌜ (now self) .start < (now self) .count ⌝ ∗ ⌜ getD ((now self) .words) ((now self) .start) 0 % 0x400 ≡ 1023 ⌝ }
+        requires { ⌜ Room (now self) ⌝ ∗ ⌜ (now self) .start < (now self) .count ⌝ ∗ ⌜ getD ((now self) .words) ((now self) .start) 0 % 0x400 ≡ absent ⌝ }
         ensures { λ _. ⌜ ((us : List Written) (os : List ℕ) → Stands (now (self .entry)) us os operand → Stands (now (self .exit)) (us ++ (Repeat sign ∷ [])) os after-sign) ⌝ }
     {
         let position = self.count;
@@ -217,11 +282,9 @@ impl Builder {
     }
 
     /// Takes a unit, or says why it may not stand there.
-    pub fn take(&mut self, placed: Placed) -> Result<(), Fault>
+    fn take(&mut self, placed: Placed) -> Result<(), Fault>
         requires { ⌜ Ready (now self) ⌝ }
-        ensures { λ r. ⌜ ((us : List Written) (os : List ℕ) (x : Before) → Stands (now (self .entry)) us os x → Cases r
-            (λ _. Took (now (self .exit)) (placed .unit) (placed .place) us os x)
-            (λ f. Refused (placed .unit) os x (stop-number (f .stop)) × (f .place ≡ placed .place))) ⌝ }
+        ensures { λ r. ⌜ ((us : List Written) (os : List ℕ) (x : Before) → Stands (now (self .entry)) us os x → Answers placed us os x r (now (self .exit))) ⌝ }
     {
         let place = placed.place;
         match placed.unit {
@@ -261,7 +324,7 @@ impl Builder {
     }
 
     /// The place of the innermost `(` whose group is still open.
-    pub fn open_place(&self) -> Option<usize>
+    fn open_place(&self) -> Option<usize>
         requires { ⌜ 0 < (now self) .depth ⌝ ∗ ⌜ (now self) .depth ≤ most-groups + 1 ⌝ }
         ensures { λ r. ⌜ BySome r (now (self .entry) .depth ≡ 1) (λ p. (1 < now (self .entry) .depth) × (p ≡ Opened-last (now (self .entry)) .place)) ⌝ }
     {
@@ -273,7 +336,7 @@ impl Builder {
     }
 
     /// Adds the CLOSE and the END.
-    pub fn finish(mut self) -> Rule
+    fn finish(mut self) -> Rule
         requires { ⌜ Room self ⌝ ∗ ⌜ self .count < most-units + 2 ⌝ ∗ ⌜ self .depth ≡ 1 ⌝ ∗ ⌜ Position (Opened-last self .bar) ⌝ }
         ensures { λ r. ⌜ ((us : List Written) (x : Before) → Stands self us [] x → Words-of (Sofar (Open ∷ (us ++ (Close ∷ [])))) (Open ∷ (us ++ (Close ∷ []))) (r .last) (r .words)) ⌝ }
     {
@@ -286,10 +349,39 @@ impl Builder {
             first: Some(position),
             second: None,
         };
-        self.words[self.count as usize] = end.word();
+        self.words[self.count as usize] = word_of(end);
         Rule {
             words: self.words,
             last: self.count,
         }
     }
+}
+
+/// Reads the units of a pattern, from the left.
+fn read_units(pattern: &[u8]) -> Result<Builder, Fault>
+    ensures { λ r. ⌜ Cases r (λ b. Read-to (now (pattern .entry)) b) (λ f. Faulty (now (pattern .entry)) (stop-number (f .stop)) (f .place)) ⌝ }
+{
+    let mut reader = Reader::new(pattern);
+    let mut builder = Builder::new();
+    while let Some(place) = reader.next_place() {
+        if let Some(placed) = builder.next_unit(&mut reader, place)? {
+            builder.take(placed)?;
+        }
+    }
+    Ok(builder)
+}
+
+/// Reads a pattern: its rule, or its one fault.
+pub fn read(pattern: &[u8]) -> Result<Rule, Fault>
+    ensures answers { λ r. ⌜ Cases r (λ rule. Rule-of (now (pattern .entry)) (rule .last) (rule .words)) (λ f. Faulty (now (pattern .entry)) (stop-number (f .stop)) (f .place)) ⌝ }
+    ensures exactly { λ r. ⌜ Cases r (λ _. No-fault (now (pattern .entry))) (λ f. Only-fault (now (pattern .entry)) (stop-number (f .stop)) (f .place)) ⌝ }
+{
+    let builder = read_units(pattern)?;
+    if let Some(place) = builder.open_place() {
+        return Err(Fault {
+            stop: Stop::LeftOpen,
+            place,
+        });
+    }
+    Ok(builder.finish())
 }

@@ -1,7 +1,7 @@
 //! A rule: the words of its table, in memory of its own.
 
-ghost use Prim.Native.Nat.{_+_, _<_, _≤_};
-ghost use Rattle.language.specs.Limits.{most-units};
+ghost use Prim.Native.Nat.{_≤_};
+ghost use Rattle.rule.specs.Tables.{No-word};
 ghost use Rattle.rule.specs.Words.{No-kind, Says};
 ghost use Rattle.std.specs.Options.{Cases};
 ghost use lib.ListN.{getD};
@@ -30,9 +30,7 @@ impl Rule {
 
     /// The word of a position; none past the last one, or past the memory.
     pub fn word(&self, position: u16) -> Option<u32>
-        ensures { λ r. ⌜ Cases r
-            ((now (self .entry) .last < position) ⊎ (most-units + 3 ≤ position))
-            (λ w. (position ≤ now (self .entry) .last) × (w ≡ getD (now (self .entry) .words) position 0)) ⌝ }
+        ensures { λ r. ⌜ Cases r (No-word (now (self .entry)) position) (λ w. (position ≤ now (self .entry) .last) × (w ≡ getD (now (self .entry) .words) position 0)) ⌝ }
     {
         if position > self.last {
             return None;
@@ -42,9 +40,7 @@ impl Rule {
 
     /// The word of a position taken apart; none past the last one, or where its kind is no kind's number.
     pub fn entry(&self, position: u16) -> Option<Entry>
-        ensures { λ r. ⌜ Cases r
-            ((now (self .entry) .last < position) ⊎ ((most-units + 3 ≤ position) ⊎ No-kind (getD (now (self .entry) .words) position 0)))
-            (λ e. (position ≤ now (self .entry) .last) × Says (getD (now (self .entry) .words) position 0) (e .kind) (e .byte) (e .first) (e .second)) ⌝ }
+        ensures { λ r. ⌜ Cases r (No-word (now (self .entry)) position ⊎ No-kind (getD (now (self .entry) .words) position 0)) (λ e. (position ≤ now (self .entry) .last) × Says (getD (now (self .entry) .words) position 0) (e .kind) (e .byte) (e .first) (e .second)) ⌝ }
     {
         Entry::of_word(self.word(position)?)
     }

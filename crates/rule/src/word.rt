@@ -1,10 +1,8 @@
 //! The words of the rule table: what a position is, and which positions link to it.
 
-ghost use Prim.Native.Nat.{ℕ, _%_, _<_};
-ghost use Rattle.rule.specs.Words.{No-kind, Position, Says, Under, byte-of, firsts, Holds, kind-number, kind-of, seconds};
+ghost use Prim.Native.Nat.{_<_};
+ghost use Rattle.rule.specs.Words.{Holds, No-kind, Says, kind-number, kind-of};
 ghost use Rattle.std.specs.Options.{Cases};
-ghost use Rattle.std.specs.declared.option.Option.the-variants.{None, Some};
-ghost use Rattle.std.specs.declared.option.Option.{Option as Maybe};
 ghost use mathlib.Core.Path.{_≡_};
 use std::fmt;
 use syntax::Letter;
@@ -96,16 +94,6 @@ pub impl fmt::Display for Kind as KindDisplay {
     }
 }
 
-/// The byte of a unit that stands for one, else 0.
-pub(crate) fn byte(unit: PatternUnit) -> u8
-    ensures { λ r. ⌜ r ≡ byte-of unit ⌝ }
-{
-    match unit {
-        PatternUnit::Plain(Letter::Byte(b)) => b,
-        _ => 0,
-    }
-}
-
 /// A word taken apart: the position's kind, the byte of a BYTE, and the positions that link to it, the smaller first.
 #[derive(Clone, Copy)]
 pub struct Entry {
@@ -116,18 +104,7 @@ pub struct Entry {
 }
 
 /// What stands in a field for a predecessor that is absent.
-const ABSENT: u32 = 1023;
-
-/// A predecessor as ten bits.
-fn field(predecessor: Option<u16>) -> u32
-    requires { ⌜ Position predecessor ⌝ }
-    ensures { λ r. ⌜ Holds r predecessor ⌝ }
-{
-    match predecessor {
-        Some(position) => u32::from(position),
-        None => ABSENT,
-    }
-}
+pub(crate) const ABSENT: u32 = 1023;
 
 /// The predecessor in ten bits.
 fn predecessor(field: u32) -> Option<u16>
@@ -142,15 +119,6 @@ fn predecessor(field: u32) -> Option<u16>
 }
 
 impl Entry {
-    /// The word of an entry.
-    pub(crate) fn word(self) -> u32
-        requires { ⌜ Position (self .first) ⌝ ∗ ⌜ Position (self .second) ⌝ }
-        ensures { λ r. ⌜ Says r (self .kind) (self .byte) (self .first) (self .second) ⌝ }
-    {
-        let fields = field(self.first) * 0x400 + field(self.second);
-        self.kind.number() * 0x1000_0000 + u32::from(self.byte) * 0x10_0000 + fields
-    }
-
     /// The entry of a word; none where its kind is no kind's number.
     pub fn of_word(word: u32) -> Option<Entry>
         ensures { λ r. ⌜ Cases r (No-kind word) (λ e. Says word (e .kind) (e .byte) (e .first) (e .second)) ⌝ }
@@ -163,29 +131,5 @@ impl Entry {
             first: predecessor((word / 0x400) % 0x400),
             second: predecessor(word % 0x400),
         })
-    }
-}
-
-/// The two, the smaller first, an only one first.
-pub(crate) fn in_order(a: Option<u16>, b: Option<u16>) -> (Option<u16>, Option<u16>)
-    ensures { λ r. ⌜ (r .0 ≡ firsts a b) × (r .1 ≡ seconds a b) ⌝ }
-{
-    match (a, b) {
-        (Some(i), Some(j)) if i < j => (Some(i), Some(j)),
-        (Some(i), Some(j)) => (Some(j), Some(i)),
-        (Some(i), None) => (Some(i), None),
-        (None, _) => (b, None),
-    }
-}
-
-/// The word with one more predecessor, behind those that it has.
-pub(crate) fn with_last(old: u32, position: u16) -> u32
-    requires { ⌜ position < 1023 ⌝ ∗ ⌜ old % 0x400 ≡ 1023 ⌝ }
-    ensures { λ r. ⌜ ((kind : Kind) (byte : ℕ) (first : Maybe ℕ) → Under first position → Says old kind byte first None → Says r kind byte (firsts first (Some position)) (seconds first (Some position))) ⌝ }
-{
-    if (old / 0x400) % 0x400 == ABSENT {
-        old - ABSENT * 0x400 + u32::from(position) * 0x400
-    } else {
-        old - ABSENT + u32::from(position)
     }
 }

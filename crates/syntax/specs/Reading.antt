@@ -5,7 +5,7 @@ use Rattle.std.specs.declared.option.Option.{Option}
 use Rattle.std.specs.declared.result.Result.the-variants.{Err, Ok}
 use Rattle.std.specs.declared.result.Result.{Result}
 use Rattle.syntax.specs.Spelling.{Spells, Stuck}
-use Rattle.syntax.specs.Stops.{stop-number}
+use Rattle.stops.specs.Stops.{stop-number}
 use Rattle.syntax.specs.declared.Fault.{Fault}
 use Rattle.syntax.specs.declared.PatternUnit.{PatternUnit}
 use Rattle.syntax.specs.declared.Placed.{Placed}

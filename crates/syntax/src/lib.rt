@@ -5,12 +5,11 @@ ghost use Rattle.std.specs.Options.{Cases as BySome};
 ghost use Rattle.std.specs.Orderings.{When};
 ghost use Rattle.syntax.specs.Spelling.{Among, Begins, Digit, Escapes, Special, Spells, Stuck, bare-specials};
 ghost use Rattle.syntax.specs.Reading.{Next};
-ghost use Rattle.syntax.specs.Stops.{stop-number};
 ghost use lib.ListN.{length};
 ghost use mathlib.Core.List.{List, [], _∷_};
 ghost use mathlib.Core.Logic.{_⊎_};
 ghost use mathlib.Core.Path.{_≡_};
-use std::fmt;
+use stops::Stop;
 
 /// What takes one byte of a frame: a byte, or the period.
 #[derive(Clone, Copy)]
@@ -42,58 +41,6 @@ pub enum PatternUnit {
 pub struct Placed {
     pub unit: PatternUnit,
     pub place: usize,
-}
-
-/// Why a pattern is refused.
-#[derive(Clone, Copy)]
-pub enum Stop {
-    /// A byte follows the most units that a pattern may have.
-    TooLong,
-    /// A backslash that begins no escape, or one of `[ ] { } ^ $` bare.
-    NoUnit,
-    /// A `)` with no group open.
-    NothingOpen,
-    /// The pattern ends with a group open.
-    LeftOpen,
-    /// A repeat sign first in the pattern, or after `(` or `|`.
-    NoOperand,
-    /// A repeat sign after a repeat sign.
-    SignAfterSign,
-    /// A `(` inside the most groups that may be open.
-    TooDeep,
-}
-
-impl Stop {
-    /// The number that the stop is known by.
-    pub fn number(self) -> u8
-        ensures { λ r. ⌜ r ≡ stop-number self ⌝ }
-    {
-        match self {
-            Stop::TooLong => 1,
-            Stop::NoUnit => 2,
-            Stop::NothingOpen => 3,
-            Stop::LeftOpen => 4,
-            Stop::NoOperand => 5,
-            Stop::SignAfterSign => 6,
-            Stop::TooDeep => 7,
-        }
-    }
-}
-
-/// The reason in words.
-pub impl fmt::Display for Stop as StopDisplay {
-    fn fmt<W: fmt::Write>(&self, f: &mut fmt::Formatter<W>) -> fmt::Result {
-        let reason = match self {
-            Stop::TooLong => "a byte follows the most units that a pattern may have",
-            Stop::NoUnit => "a backslash that begins no escape, or one of [ ] { } ^ $ bare",
-            Stop::NothingOpen => "a ) with no group open",
-            Stop::LeftOpen => "the pattern ends with this group open",
-            Stop::NoOperand => "a repeat sign first in the pattern, or after ( or |",
-            Stop::SignAfterSign => "a repeat sign after a repeat sign",
-            Stop::TooDeep => "a ( inside the most groups that may be open",
-        };
-        f.write_str(reason)
-    }
 }
 
 /// A stop, and the place in the pattern that it names.

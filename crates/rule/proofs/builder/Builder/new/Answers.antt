@@ -6,4 +6,4 @@ use lib.ListN.{length-replicate, replicate}
 use mathlib.Core.Path.{refl}
 
 pub returns : need.returns
-returns c = begun (replicate 1023 0) (replicate 33 blank) (c .word .result) (length-replicate {A = ℕ} 1023 0) (length-replicate 33 blank) refl (c .word .ensures)
+returns c = begun (replicate 1023 0) (replicate 33 blank) (c .word-of .result) (length-replicate {A = ℕ} 1023 0) (length-replicate 33 blank) refl (c .word-of .ensures)

@@ -1,7 +1,7 @@
 -- The number of each stop.
 use Prim.Native.Nat.{ℕ}
-use Rattle.syntax.specs.declared.Stop.{Stop}
-use Rattle.syntax.specs.declared.Stop.the-variants.{TooLong, NoUnit, NothingOpen, LeftOpen, NoOperand, SignAfterSign, TooDeep}
+use Rattle.stops.specs.declared.Stop.{Stop}
+use Rattle.stops.specs.declared.Stop.the-variants.{TooLong, NoUnit, NothingOpen, LeftOpen, NoOperand, SignAfterSign, TooDeep}
 
 abbrev pub stop-number : Stop → ℕ
 stop-number TooLong = 1

@@ -3,7 +3,7 @@ use Rattle.language.proofs.Trees.{reads-few}
 use Rattle.language.specs.Faults.{Faulty}
 use Rattle.rule.proofs.Readied.{bar-at, room-at}
 use Rattle.rule.proofs.Whole.{few-units, ruled, still-open}
-use Rattle.rule.proofs.read.Needs as need
+use Rattle.rule.proofs.builder.read.Needs as need
 use Rattle.std.proofs.shelf.Results.{err-from-errBy}
 use mathlib.Core.Path.{subst, sym}
 

@@ -1,5 +1,5 @@
 use Prim.Native.Nat.{_-_, _≤_}
-use Rattle.rule.proofs.read_units.Given as given
+use Rattle.rule.proofs.builder.read_units.Given as given
 use Rattle.rule.specs.Standing.{Read-to}
 use lib.ListN.{length, take}
 use mathlib.Core.Path.{_≡_}
