@@ -9,8 +9,10 @@ use Rattle.syntax.specs.declared.PatternUnit.the-variants.{Bar, Close, Open, Pl
 use Rattle.syntax.specs.declared.PatternUnit.{PatternUnit}
 use Rattle.syntax.specs.declared.Sign.the-variants.{Opt, Plus, Star}
 use Rattle.syntax.specs.declared.Sign.{Sign}
-use lib.Dec.{ltb}
-use mathlib.Core.Bool.{cond}
+use lib.Dec.{eqb, ltb}
+use lib.ListN.{getD}
+use mathlib.Core.Bool.{Bool, cond}
+use mathlib.Core.List.{List}
 use mathlib.Core.Path.{_≡_}
 
 abbrev pub kind-number : Kind → ℕ
@@ -58,6 +60,34 @@ pub record Says (word : ℕ) (kind : Kind) (byte : ℕ) (first second : Option �
   pub byte-bits : (word / 0x10_0000) % 0x100 ≡ byte
   pub first-bits : Holds ((word / 0x400) % 0x400) first
   pub second-bits : Holds (word % 0x400) second
+
+-- the position in ten bits, if there is one
+abbrev pub position-in : ℕ → Option ℕ
+position-in field = cond (eqb field absent) None (Some field)
+
+-- the predecessors in a word
+abbrev pub first-in : ℕ → Option ℕ
+first-in word = position-in ((word / 0x400) % 0x400)
+
+abbrev pub second-in : ℕ → Option ℕ
+second-in word = position-in (word % 0x400)
+
+-- whether a word takes the byte c: a BYTE its own, an ANY each
+abbrev pub word-takes : ℕ → ℕ → Bool
+word-takes word c = cond (eqb (word / 0x1000_0000) (kind-number kind.Byte)) (eqb ((word / 0x10_0000) % 0x100) c) (eqb (word / 0x1000_0000) (kind-number kind.Any))
+
+-- what stands at a position of a table; past its words stands what has no predecessor and takes no byte
+abbrev pub word-at : List ℕ → ℕ → ℕ
+word-at words j = getD words j 0x200F_FFFF
+
+abbrev pub first-of : List ℕ → ℕ → Option ℕ
+first-of words j = first-in (word-at words j)
+
+abbrev pub second-of : List ℕ → ℕ → Option ℕ
+second-of words j = second-in (word-at words j)
+
+abbrev pub takes-at : List ℕ → ℕ → ℕ → Bool
+takes-at words c j = word-takes (word-at words j) c
 
 -- the word's kind is no kind's number
 abbrev pub No-kind : ℕ → Type 0

@@ -2,13 +2,15 @@
 
 ghost use Prim.Native.Nat.{_≤_};
 ghost use Rattle.rule.specs.Tables.{No-word};
-ghost use Rattle.rule.specs.Words.{No-kind, Says};
+ghost use Rattle.rule.specs.Words.{No-kind, Says, first-of, second-of, takes-at};
 ghost use Rattle.std.specs.Options.{Cases};
 ghost use lib.ListN.{getD};
 ghost use mathlib.Core.Logic.{_⊎_};
 ghost use mathlib.Core.Path.{_≡_};
 use crate::MOST_UNITS;
 use crate::word::Entry;
+use crate::word::predecessors;
+use crate::word::takes;
 
 /// The positions of a pattern of the most units: the added OPEN, the units, the added CLOSE and the END.
 pub const POSITIONS: usize = MOST_UNITS as usize + 3;
@@ -43,5 +45,25 @@ impl Rule {
         ensures { λ r. ⌜ Cases r (No-word (now (self .entry)) position ⊎ No-kind (getD (now (self .entry) .words) position 0)) (λ e. (position ≤ now (self .entry) .last) × Says (getD (now (self .entry) .words) position 0) (e .kind) (e .byte) (e .first) (e .second)) ⌝ }
     {
         Entry::of_word(self.word(position)?)
+    }
+
+    /// The positions that link to a position, the smaller first; none past the memory.
+    pub fn predecessors(&self, position: u16) -> (Option<u16>, Option<u16>)
+        ensures { λ r. ⌜ (r .0 ≡ first-of (now (self .entry) .words) position) × (r .1 ≡ second-of (now (self .entry) .words) position) ⌝ }
+    {
+        match self.words.get(position as usize) {
+            Some(word) => predecessors(*word),
+            None => (None, None),
+        }
+    }
+
+    /// Whether the word of a position takes a byte: a BYTE its own, an ANY each.
+    pub fn takes(&self, position: u16, byte: u8) -> bool
+        ensures { λ r. ⌜ r ≡ takes-at (now (self .entry) .words) byte position ⌝ }
+    {
+        match self.words.get(position as usize) {
+            Some(word) => takes(*word, byte),
+            None => false,
+        }
     }
 }

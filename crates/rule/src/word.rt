@@ -1,7 +1,7 @@
 //! The words of the rule table: what a position is, and which positions link to it.
 
 ghost use Prim.Native.Nat.{_<_};
-ghost use Rattle.rule.specs.Words.{Holds, No-kind, Says, kind-number, kind-of};
+ghost use Rattle.rule.specs.Words.{Holds, No-kind, Says, first-in, kind-number, kind-of, position-in, second-in, word-takes};
 ghost use Rattle.std.specs.Options.{Cases};
 ghost use mathlib.Core.Path.{_≡_};
 use std::fmt;
@@ -109,12 +109,33 @@ pub(crate) const ABSENT: u32 = 1023;
 /// The predecessor in ten bits.
 fn predecessor(field: u32) -> Option<u16>
     requires { ⌜ field < 1024 ⌝ }
-    ensures { λ r. ⌜ Holds field r ⌝ }
+    ensures { λ r. ⌜ Holds field r × (r ≡ position-in field) ⌝ }
 {
     if field == ABSENT {
         None
     } else {
         Some(field as u16)
+    }
+}
+
+/// The predecessors in a word.
+pub(crate) fn predecessors(word: u32) -> (Option<u16>, Option<u16>)
+    ensures { λ r. ⌜ (r .0 ≡ first-in word) × (r .1 ≡ second-in word) ⌝ }
+{
+    (
+        predecessor((word / 0x400) % 0x400),
+        predecessor(word % 0x400),
+    )
+}
+
+/// Whether a word takes a byte.
+pub(crate) fn takes(word: u32, byte: u8) -> bool
+    ensures { λ r. ⌜ r ≡ word-takes word byte ⌝ }
+{
+    match word / 0x1000_0000 {
+        0 => (word / 0x10_0000) % 0x100 == u32::from(byte),
+        1 => true,
+        _ => false,
     }
 }
 

@@ -21,6 +21,10 @@ pub enum Stop {
     SignAfterSign,
     /// A `(` inside the most groups that may be open.
     TooDeep,
+    /// A cell number that is not below the board's size.
+    NoCell,
+    /// The board's allowance is used up.
+    NoAllowance,
 }
 
 impl Stop {
@@ -36,6 +40,8 @@ impl Stop {
             Stop::NoOperand => 5,
             Stop::SignAfterSign => 6,
             Stop::TooDeep => 7,
+            Stop::NoCell => 18,
+            Stop::NoAllowance => 19,
         }
     }
 }
@@ -51,6 +57,8 @@ pub impl fmt::Display for Stop as StopDisplay {
             Stop::NoOperand => "a repeat sign first in the pattern, or after ( or |",
             Stop::SignAfterSign => "a repeat sign after a repeat sign",
             Stop::TooDeep => "a ( inside the most groups that may be open",
+            Stop::NoCell => "the cell number is not below the board's size",
+            Stop::NoAllowance => "the board's allowance is 0",
         };
         f.write_str(reason)
     }

@@ -1,0 +1,4 @@
+pub mod Boards
+pub mod Makes
+pub mod Lent
+pub mod Traced

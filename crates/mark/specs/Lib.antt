@@ -1,0 +1,4 @@
+pub mod Limits
+pub mod Marks
+pub mod YesNo
+pub mod Tail
