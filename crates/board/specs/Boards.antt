@@ -45,7 +45,8 @@ pub record Accepted (size allowance i : ℕ) : Type 0 where
   pub allowed : 0 < allowance
 
 module _ {M X : Type 0} (make : Make X) (cells : List M) (meter : X) (i : ℕ) where
-  -- a read of cell i answers r, and leaves the board at cells′ and meter′
+  -- A read of cell i answers r, and leaves the board at cells′ and meter′. An accepted one answers the mark at i, which lies
+  -- inside, so that the default of getD does not matter.
   abbrev pub Reads : List M → X → Result M Stop → Type 0
   Reads cells′ meter′ (Ok m) =
       Accepted (length cells) (make .allowed (length cells) meter) i × (m ≡ getD cells i m) × (cells′ ≡ cells) × (meter′ ≡ make .step (length cells) meter (read i))

@@ -1,14 +1,10 @@
--- What a trace board keeps over its accesses, and one word more.
-use Prim.Native.Nat.{ℕ, _+_, _-_, _<_, _≤_}
+-- What a trace board keeps over its accesses.
+use Prim.Native.Nat.{ℕ, _+_, _-_, _≤_}
 use Rattle.board.specs.Lent.{Lent, lent-on, lent-still}
 use Rattle.board.specs.declared.trace.Trace.{Trace}
 use Rattle.std.proofs.shelf.Lists.{drop-drop}
-use Rattle.std.specs.declared.result.Result.the-variants.{Err, Ok}
-use Rattle.std.specs.declared.result.Result.{Result}
-use Rattle.stops.specs.Stops.{stop-number}
-use Rattle.stops.specs.declared.Stop.{Stop}
 use denote.Ref.{name}
-use lib.ListN.{drop, length, set}
+use lib.ListN.{drop, length}
 use mathlib.Core.List.{List}
 use mathlib.Core.Path.{_≡_, ap, refl, subst, sym, _∙_}
 use native.Mathlib.Omega.{arith}
@@ -38,8 +34,3 @@ traced-on a b c p q = record {
   more = omega arith;
   behind = q .behind ∙ later (b .used) (c .used) (b .words .now) (a .words .now) (q .more) (p .behind);
 }
-
--- a word written behind those used
-abbrev pub noted : List ℕ → ℕ → ℕ → List ℕ → Result ℕ Stop → Type 0
-noted words used word words′ (Ok used′) = (used < length words) × (used′ ≡ used + 1) × (words′ ≡ set words used word)
-noted words used word words′ (Err s) = (length words ≤ used) × (stop-number s ≡ 19) × (words′ ≡ words)

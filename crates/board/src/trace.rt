@@ -1,12 +1,15 @@
 //! The trace board.
 
-ghost use Prim.Native.Nat.{_%_, _*_, _+_, _-_, _^_, _≤_};
+ghost use Prim.Native.Nat.{min, _%_, _*_, _+_, _-_, _<_, _^_, _≤_};
 ghost use Rattle.board.specs.Boards.{most-cells};
 ghost use Rattle.board.specs.Lent.{lent-small};
 ghost use Rattle.board.specs.Makes.{Words, tracing};
-ghost use Rattle.board.specs.Traced.{Traced, noted, traced-on, traced-still};
+ghost use Rattle.board.specs.Traced.{Traced, traced-on, traced-still};
+ghost use Rattle.std.specs.Results.{Cases};
+ghost use Rattle.stops.specs.Stops.{stop-number};
 ghost use denote.Ref.{name};
 ghost use lib.ListN.{length, take};
+ghost use mathlib.Core.Logic.{_⊎_};
 ghost use mathlib.Core.Path.{_≡_};
 use crate::Board;
 use crate::slice::cells_in;
@@ -54,15 +57,19 @@ fn word(kind: u32, cell: u64) -> u32
     (kind << CELL_BITS) + (cell % (1 << CELL_BITS)) as u32
 }
 
-/// Writes a word behind those used, and answers how many are used then; stop 19 where none is free.
-fn note(words: &mut [u32], used: usize, word: u32) -> Result<usize, Stop>
-    ensures { λ r. ⌜ noted (now (words .entry)) used word (now (words .exit)) r ⌝ }
+/// Where a cell lies in a slice of marks of this length, if a word is free. Stop 18 where there is no such cell; where there
+/// is, stop 19 if all words are used.
+fn admit(len: usize, cell: u64, used: usize, words: usize) -> Result<usize, Stop>
+    ensures { λ r. ⌜ Cases r (λ at. (at ≡ cell) × (at < min most-cells len) × (used < words)) (λ s. ((stop-number s ≡ 18) × (min most-cells len ≤ cell)) ⊎ ((stop-number s ≡ 19) × (cell < min most-cells len) × (words ≤ used))) ⌝ }
 {
-    if used >= words.len() {
-        return Err(Stop::NoAllowance);
+    match index(len, cell) {
+        Ok(at) => if used < words {
+            Ok(at)
+        } else {
+            Err(Stop::NoAllowance)
+        },
+        Err(stop) => Err(stop),
     }
-    words[used] = word;
-    Ok(used + 1)
 }
 
 pub impl<'a, M: Mark> Board for Trace<'a, M> as TraceBoard {
@@ -101,16 +108,18 @@ pub impl<'a, M: Mark> Board for Trace<'a, M> as TraceBoard {
     }
 
     fn read(&mut self, cell: u64) -> Result<M, Stop> {
-        let at = index(self.marks.len(), cell)?;
         let used = self.used;
-        self.used = note(self.words, used, word(READ, cell))?;
+        let at = admit(self.marks.len(), cell, used, self.words.len())?;
+        put(self.words, used, word(READ, cell));
+        self.used = used + 1;
         Ok(self.marks[at])
     }
 
     fn write(&mut self, cell: u64, mark: M) -> Result<(), Stop> {
-        let at = index(self.marks.len(), cell)?;
         let used = self.used;
-        self.used = note(self.words, used, word(WRITE, cell))?;
+        let at = admit(self.marks.len(), cell, used, self.words.len())?;
+        put(self.words, used, word(WRITE, cell));
+        self.used = used + 1;
         put(self.marks, at, mark);
         Ok(())
     }
