@@ -1,5 +1,7 @@
 //! Boards: cells that hold marks, with a meter that every access moves.
 
+#![tactic(auto)]
+
 mod counting;
 mod row;
 mod slice;

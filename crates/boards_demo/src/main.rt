@@ -1,6 +1,8 @@
 //! Drives a board of each make through the same accesses, good and refused, for each kind of mark, and prints what each
 //! access answers and what is left in the slices that the boards were lent.
 
+#![tactic(auto)]
+
 use board::{Board, Counting, Row, Trace};
 use drive::{Access, drive_counting, drive_row, drive_trace, touch};
 use mark::{Mark, Tail, YesNo};

@@ -1,6 +1,8 @@
 //! The screen: a rule, a board, and the frame that is open on it. Its six calls test a frame's bytes against the rule's pattern
 //! one by one, and touch the board the same way whatever the bytes are.
 
+#![tactic(auto)]
+
 mod call;
 mod frame;
 

@@ -1,5 +1,7 @@
 //! Worked cases: patterns with the tables, stops, marks and verdicts that the definitions give them, and calls with what they are told.
 
+#![tactic(auto)]
+
 ghost use Rattle.calls_cases.specs.Cases.{WorkedCasesHold};
 
 /// Each worked case follows from the definitions.

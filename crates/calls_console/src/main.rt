@@ -1,6 +1,8 @@
 //! Reads commands from standard input, one a line, makes the calls that they ask for on one screen, and prints what is
 //! answered.
 
+#![tactic(auto)]
+
 mod command;
 mod number;
 mod show;

@@ -1,5 +1,7 @@
 //! Worked cases: patterns with the tables or stops that the definitions give them.
 
+#![tactic(auto)]
+
 ghost use Rattle.cases.specs.Cases.{WorkedCasesHold};
 
 /// Each worked case follows from the definitions.

@@ -1,6 +1,8 @@
 //! The rules of the calls, and the law of runs: what each call is told, which touches it makes, what it leaves in the cells, and
 //! what two runs have in common.
 
+#![tactic(auto)]
+
 ghost use Rattle.conduct.specs.Runs.{EachCallIsToldOneThing};
 
 /// Whatever is loaded and open, a call is told one thing only.

@@ -1,5 +1,7 @@
 //! Reads commands from standard input, one a line, and prints what the unit makes of each.
 
+#![tactic(auto)]
+
 mod command;
 
 use command::Command;

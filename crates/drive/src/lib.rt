@@ -1,5 +1,7 @@
 //! Accesses made on a board in their order, and what they leave in the slices that the board was lent.
 
+#![tactic(auto)]
+
 ghost use Rattle.board.specs.Boards.{most_cells};
 ghost use Rattle.drive.specs.Drives.{Touches, after, counted, rowed, state, traced};
 ghost use Rattle.std.specs.Prelude.{◌≡◌, ◌++◌, length, drop};

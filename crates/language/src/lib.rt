@@ -1,5 +1,7 @@
 //! What patterns are, the byte strings that belong to them, and the theorems that the table rests on.
 
+#![tactic(auto)]
+
 ghost use Rattle.language.specs.Theorems.{AtMostTwoLinksComeIn, EachPatternHasOneAnswer, EachUnitHasAPosition, EmptyFormsAndThePeriod, PredecessorsAreSettled, UnitsTellTheTree};
 
 /// Each pattern is accepted, as one tree, or has one fault, and never both.

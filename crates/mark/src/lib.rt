@@ -1,6 +1,8 @@
 //! Marks: what a cell of a board holds. A mark is of a kind, which says what nothing is, how marks are joined,
 //! which mark a place of a frame is seeded with, and the number that a mark is shown by.
 
+#![tactic(auto)]
+
 mod start;
 mod tail;
 mod yes_no;

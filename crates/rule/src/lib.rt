@@ -1,5 +1,7 @@
 //! Reading a pattern into its rule table.
 
+#![tactic(auto)]
+
 mod builder;
 mod table;
 mod word;

@@ -1,5 +1,7 @@
 //! Runs: lists of calls played on a screen from its making on, one run alone or two side by side.
 
+#![tactic(auto)]
+
 ghost use Rattle.std.specs.Prelude.{◌≡◌, min, length, take, drop};
 ghost use Rattle.conduct.specs.Runs.{Run, TwoRuns};
 ghost use Rattle.runs.specs.Playing.{at_rest, orders, told_of};

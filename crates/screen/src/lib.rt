@@ -1,5 +1,7 @@
 //! The screen: what it does on a board. What a call of a frame does is made whole or, where the board has not enough for it, not at all.
 
+#![tactic(auto)]
+
 mod movements;
 
 ghost use Rattle.std.specs.Prelude.{◌≡◌, ℕ, ◌+◌, ◌*◌, ◌<◌, ◌≤◌, List, length, MatchResult};

@@ -1,5 +1,7 @@
 //! The stops: why a call is not carried out, and the number of each reason.
 
+#![tactic(auto)]
+
 ghost use Rattle.stops.specs.Stops.{stop_number};
 ghost use Rattle.std.specs.Prelude.{◌≡◌};
 

@@ -1,5 +1,7 @@
 //! The units that a pattern is written with, and the reader that takes them off the caller's bytes.
 
+#![tactic(auto)]
+
 ghost use Rattle.std.specs.Prelude.{◌≡◌, ℕ, ◌+◌, ◌*◌, ◌<◌, ◌≤◌, ◌⊎◌, List, [], ◌∷◌, length, MatchBool, MatchOption};
 ghost use Rattle.syntax.specs.Spelling.{Among, Begins, Digit, Escapes, Special, Spells, Stuck, bare_specials};
 ghost use Rattle.syntax.specs.Reading.{Next};

@@ -1,5 +1,7 @@
 //! What cells and verdicts mean: the theorems that the screen rests on.
 
+#![tactic(auto)]
+
 ghost use Rattle.language.specs.Ways.{WaysSpellTheLanguage};
 ghost use Rattle.theory.specs.Theorems.{CellsHoldAfterEachByte, TablesTellThePattern, TheLastCellHoldsTheVerdict, TheTailIsTheSmallestStart, TwoScansSuffice, YesExactlyWhenAllBelongs};
 

@@ -1,6 +1,8 @@
 //! Plays one night twice on two counting boards. The nights differ only in what renter 2 feeds and in what the cells first hold:
 //! in one run its payload fits the pattern, in the other it fails. What each call is told is printed side by side.
 
+#![tactic(auto)]
+
 use board::{Board, Counting};
 use calls::{Answer, Call, Refusal};
 use mark::YesNo;
