@@ -7,9 +7,9 @@ use Rattle.screen.proofs.wipe_cells.Goals as goal
 use Rattle.screen.specs.Moving.{CarriedOut}
 use Rattle.std.proofs.lemmas.Result.{err_from_is_err_and}
 
-pub returns-in-err-admit : goal.returns-in-err-admit
-returns-in-err-admit g c =
-    let p = err_from_is_err_and c.from-residual.result c.from-residual.ensures.1 in
+pub returns-in_err-admit : goal.returns-in_err-admit
+returns-in_err-admit g c =
+    let p = err_from_is_err_and c.from_residual.result c.from_residual.ensures.1 in
     let b = g.B.Board in
     let board = c.args.board.now in
     let n = c.args.rule.now.last in
@@ -19,7 +19,7 @@ returns-in-err-admit g c =
       kept = b.keeps.still _;
       done = λ pattern rule.
           left_out b.make (b.cells board) (b.meter board) n (wiping n) (wiped g.M.Mark.kind.nothing n (b.cells board)) _ _ _ p.2 (let l = length_writes (suc n) 0 in let e = c.last-last.ensures in let f = c.from.ensures in omega arith)
-          (c.in-err-admit.ensures (few rule));
+          (c.in_err-admit.ensures (few rule));
     })
 
 pub returns : goal.returns
@@ -29,7 +29,7 @@ returns g c =
     let n = c.args.rule.now.last in
     let words = c.args.rule.now.words in
     let kind = g.M.Mark.kind in
-    let adm = c.in-ok-admit.ensures in
+    let adm = c.in_ok-admit.ensures in
     let e = c.last-last.ensures in
     record {
       kept = c.wipe.ensures.kept;

@@ -23,5 +23,5 @@ returns-in-63 c = rw c.in-63.is opt_sign
 pub returns-in-46 : goal.returns-in-46
 returns-in-46 c = rw c.in-46.is period
 
-pub returns-in-default-2 : goal.returns-in-default-2
-returns-in-default-2 c = ordinary c.if-is-special.ensures
+pub returns-in_default-2 : goal.returns-in_default-2
+returns-in_default-2 c = ordinary c.if-is_special.ensures

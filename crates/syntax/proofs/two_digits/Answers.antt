@@ -1,7 +1,7 @@
 use Rattle.syntax.proofs.two_digits.Goals as goal
 
-pub returns-in-err-sixteens : goal.returns-in-err-sixteens
-returns-in-err-sixteens c = rw c.from-residual.ensures (λ v w d e. c.in-err-sixteens.ensures v d)
+pub returns-in_err-sixteens : goal.returns-in_err-sixteens
+returns-in_err-sixteens c = rw c.from_residual.ensures (λ v w d e. c.in_err-sixteens.ensures v d)
 
-pub returns-in-err-ones : goal.returns-in-err-ones
-returns-in-err-ones c = rw c.from-residual-in-err-ones.ensures (λ v w d e. c.in-err-ones.ensures w e)
+pub returns-in_err-ones : goal.returns-in_err-ones
+returns-in_err-ones c = rw c.from_residual-in_err-ones.ensures (λ v w d e. c.in_err-ones.ensures w e)

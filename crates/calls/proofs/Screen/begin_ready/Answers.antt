@@ -13,19 +13,19 @@ pub returns-then-allowance-all : goal.returns-then-allowance-all
 returns-then-allowance-all g c = record {
   same = search rules;
   kept = g.B.Board.keeps.still _;
-  goes = λ l o s. begin_poor g.B.Board.make g.M.Mark.kind l o _ _ _ _ s c.requires _ _ _ _ c.frame-touches-all.ensures c.last.ensures (omega arith) (omega arith);
+  goes = λ l o s. begin_poor g.B.Board.make g.M.Mark.kind l o _ _ _ _ s c.requires _ _ _ _ c.frame_touches-all.ensures c.last.ensures (omega arith) (omega arith);
 }
 
-pub returns-in-err-touches : goal.returns-in-err-touches
-returns-in-err-touches g c = record {
+pub returns-in_err-touches : goal.returns-in_err-touches
+returns-in_err-touches g c = record {
   same = search rules;
-  kept = c.in-err-touches.ensures.kept;
-  goes = λ l o s. begin_refused g.B.Board.make g.M.Mark.kind l o _ _ _ _ s c.requires c.args.renter _ _ _ c.frame-touches-all.ensures c.last.ensures (omega arith) _ _ (omega arith) _ c.in-err-touches.ensures.done;
+  kept = c.in_err-touches.ensures.kept;
+  goes = λ l o s. begin_refused g.B.Board.make g.M.Mark.kind l o _ _ _ _ s c.requires c.args.renter _ _ _ c.frame_touches-all.ensures c.last.ensures (omega arith) _ _ (omega arith) _ c.in_err-touches.ensures.done;
 }
 
 pub returns : goal.returns
 returns g c = record {
   same = search rules;
-  kept = c.in-ok-touches.ensures.kept;
-  goes = λ l o s. begin_goes g.B.Board.make g.M.Mark.kind l o _ _ _ _ s c.requires _ _ _ _ c.frame-touches-all.ensures c.last.ensures (omega arith) _ _ (omega arith) _ c.in-ok-touches.ensures.done;
+  kept = c.in_ok-touches.ensures.kept;
+  goes = λ l o s. begin_goes g.B.Board.make g.M.Mark.kind l o _ _ _ _ s c.requires _ _ _ _ c.frame_touches-all.ensures c.last.ensures (omega arith) _ _ (omega arith) _ c.in_ok-touches.ensures.done;
 }

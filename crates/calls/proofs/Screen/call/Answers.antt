@@ -3,11 +3,11 @@ use Rattle.calls.proofs.Screen.call.Goals as goal
 use Rattle.calls.specs.Told.{Unopened, order}
 use Rattle.std.proofs.Common.{sym, refl, ap, subst, rules}
 
-pub returns-in-default-Meter : goal.returns-in-default-Meter
-returns-in-default-Meter g c = record {
+pub returns-in_default-Meter : goal.returns-in_default-Meter
+returns-in_default-Meter g c = record {
   same = search rules;
   kept = g.B.Board.keeps.still _;
-  goes = λ l o s. goes_as g.B.Board.make g.M.Mark.kind (ap order c.in-default-Meter.is-1) refl (meter_goes g.B.Board.make g.M.Mark.kind l o _ _ _ _ s _ c.reading.ensures);
+  goes = λ l o s. goes_as g.B.Board.make g.M.Mark.kind (ap order c.in_default-Meter.is-1) refl (meter_goes g.B.Board.make g.M.Mark.kind l o _ _ _ _ s _ c.reading.ensures);
 }
 
 pub returns-in-Empty-Begin : goal.returns-in-Empty-Begin
@@ -75,21 +75,21 @@ returns-in-Open-Begin g c = record {
 
 pub returns-in-Open-Feed : goal.returns-in-Open-Feed
 returns-in-Open-Feed g c = record {
-  same = c.feed-open.ensures.same;
-  kept = c.feed-open.ensures.kept;
-  goes = λ l o s. goes_as g.B.Board.make g.M.Mark.kind (ap order c.in-Open-Feed.is-1) c.number-in-Open-Feed.ensures (goes_from g.B.Board.make g.M.Mark.kind c.in-Open-Feed.is-0 (c.feed-open.ensures.goes l o (sound_at g.B.Board.make g.M.Mark.kind l o _ _ _ _ _ c.in-Open-Feed.is-0 s)));
+  same = c.feed_open.ensures.same;
+  kept = c.feed_open.ensures.kept;
+  goes = λ l o s. goes_as g.B.Board.make g.M.Mark.kind (ap order c.in-Open-Feed.is-1) c.number-in-Open-Feed.ensures (goes_from g.B.Board.make g.M.Mark.kind c.in-Open-Feed.is-0 (c.feed_open.ensures.goes l o (sound_at g.B.Board.make g.M.Mark.kind l o _ _ _ _ _ c.in-Open-Feed.is-0 s)));
 }
 
 pub returns-in-Open-Finish : goal.returns-in-Open-Finish
 returns-in-Open-Finish g c = record {
-  same = c.finish-open.ensures.same;
-  kept = c.finish-open.ensures.kept;
-  goes = λ l o s. goes_as g.B.Board.make g.M.Mark.kind (ap order c.in-Open-Finish.is-1) c.verdict.ensures (goes_from g.B.Board.make g.M.Mark.kind c.in-Open-Finish.is-0 (c.finish-open.ensures.goes l o (sound_at g.B.Board.make g.M.Mark.kind l o _ _ _ _ _ c.in-Open-Finish.is-0 s)));
+  same = c.finish_open.ensures.same;
+  kept = c.finish_open.ensures.kept;
+  goes = λ l o s. goes_as g.B.Board.make g.M.Mark.kind (ap order c.in-Open-Finish.is-1) c.verdict.ensures (goes_from g.B.Board.make g.M.Mark.kind c.in-Open-Finish.is-0 (c.finish_open.ensures.goes l o (sound_at g.B.Board.make g.M.Mark.kind l o _ _ _ _ _ c.in-Open-Finish.is-0 s)));
 }
 
 pub returns-in-Open-Drop : goal.returns-in-Open-Drop
 returns-in-Open-Drop g c = record {
-  same = c.drop-open.ensures.same;
-  kept = c.drop-open.ensures.kept;
-  goes = λ l o s. goes_as g.B.Board.make g.M.Mark.kind (ap order c.in-Open-Drop.is-1) c.number-in-Open-Drop.ensures (goes_from g.B.Board.make g.M.Mark.kind c.in-Open-Drop.is-0 (c.drop-open.ensures.goes l o (sound_at g.B.Board.make g.M.Mark.kind l o _ _ _ _ _ c.in-Open-Drop.is-0 s)));
+  same = c.drop_open.ensures.same;
+  kept = c.drop_open.ensures.kept;
+  goes = λ l o s. goes_as g.B.Board.make g.M.Mark.kind (ap order c.in-Open-Drop.is-1) c.number-in-Open-Drop.ensures (goes_from g.B.Board.make g.M.Mark.kind c.in-Open-Drop.is-0 (c.drop_open.ensures.goes l o (sound_at g.B.Board.make g.M.Mark.kind l o _ _ _ _ _ c.in-Open-Drop.is-0 s)));
 }

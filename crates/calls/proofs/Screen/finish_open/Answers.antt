@@ -16,16 +16,16 @@ returns-then-frame g c = record {
   goes = λ l o s. finish_early g.B.Board.make g.M.Mark.kind l o _ _ _ _ s _ c.requires _ c.if-frame-renter.false c.if-frame.true;
 }
 
-pub returns-in-err-mark : goal.returns-in-err-mark
-returns-in-err-mark g c = record {
+pub returns-in_err-mark : goal.returns-in_err-mark
+returns-in_err-mark g c = record {
   same = search rules;
-  kept = c.in-err-mark.ensures.kept;
-  goes = λ l o s. finish_refused g.B.Board.make g.M.Mark.kind l o _ _ _ _ s _ c.requires c.args.renter _ _ _ c.in-err-mark.ensures.done;
+  kept = c.in_err-mark.ensures.kept;
+  goes = λ l o s. finish_refused g.B.Board.make g.M.Mark.kind l o _ _ _ _ s _ c.requires c.args.renter _ _ _ c.in_err-mark.ensures.done;
 }
 
 pub returns : goal.returns
 returns g c = record {
   same = search rules;
-  kept = c.in-ok-mark.ensures.kept;
-  goes = λ l o s. finish_goes g.B.Board.make g.M.Mark.kind l o _ _ _ _ s _ c.requires _ _ _ _ _ c.if-frame-renter.false c.if-frame.false c.in-ok-mark.ensures.done;
+  kept = c.in_ok-mark.ensures.kept;
+  goes = λ l o s. finish_goes g.B.Board.make g.M.Mark.kind l o _ _ _ _ s _ c.requires _ _ _ _ _ c.if-frame-renter.false c.if-frame.false c.in_ok-mark.ensures.done;
 }

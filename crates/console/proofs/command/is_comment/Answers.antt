@@ -5,5 +5,5 @@ use Rattle.std.proofs.Common.{rules}
 pub returns-in-35 : goal.returns-in-35
 returns-in-35 c = comment_at c.args.line.now (search rules) (search rules)
 
-pub returns-in-default : goal.returns-in-default
-returns-in-default c x = let (h, e) = comment_begins x in search rules
+pub returns-in_default : goal.returns-in_default
+returns-in_default c x = let (h, e) = comment_begins x in search rules

@@ -11,24 +11,24 @@ use Rattle.std.proofs.Common.{sym, subst}
 left : (c : goal.In-Some) → Faulty c.args.pattern.now 4 c.in-Some.place
 left c =
     let (many, place) = c.in-Some.ensures in
-    subst (λ z. Faulty c.args.pattern.now 4 z) (sym place) (still_open c.args.pattern.now c.in-ok-builder.builder c.in-ok-builder.ensures many)
+    subst (λ z. Faulty c.args.pattern.now 4 z) (sym place) (still_open c.args.pattern.now c.in_ok-builder.builder c.in_ok-builder.ensures many)
 
 pub returns-in-Some : goal.returns-in-Some
 returns-in-Some c = record { answers = left c; exactly = only_fault (left c) }
 
-pub returns-in-err-builder : goal.returns-in-err-builder
-returns-in-err-builder c =
-    let p = err_from_is_err_and c.from-residual.result c.from-residual.ensures.1 in
-    record { answers = rw (p.1, p.2) c.in-err-builder.ensures; exactly = rw (p.1, p.2) (only_fault c.in-err-builder.ensures) }
+pub returns-in_err-builder : goal.returns-in_err-builder
+returns-in_err-builder c =
+    let p = err_from_is_err_and c.from_residual.result c.from_residual.ensures.1 in
+    record { answers = rw (p.1, p.2) c.in_err-builder.ensures; exactly = rw (p.1, p.2) (only_fault c.in_err-builder.ensures) }
 
 pub finish-requires : goal.finish-requires
 finish-requires c =
-    let b = c.in-ok-builder.builder in
-    let r = c.in-ok-builder.ensures in
+    let b = c.in_ok-builder.builder in
+    let r = c.in_ok-builder.ensures in
     let few = reads_few r.reads in
-    (room_at b r.us r.os r.x r.stands few, (few_units c.args.pattern.now b r, (c.in-default.ensures, bar_at b r.us r.os r.x r.stands few)))
+    (room_at b r.us r.os r.x r.stands few, (few_units c.args.pattern.now b r, (c.in_default.ensures, bar_at b r.us r.os r.x r.stands few)))
 
 pub returns : goal.returns
 returns c =
-    let rule = ruled c.args.pattern.now c.in-ok-builder.builder c.in-ok-builder.ensures c.finish.result.last c.finish.result.words c.in-default.ensures c.finish.ensures in
+    let rule = ruled c.args.pattern.now c.in_ok-builder.builder c.in_ok-builder.ensures c.finish.result.last c.finish.result.words c.in_default.ensures c.finish.ensures in
     record { answers = rule; exactly = no_fault_read rule.accepted }

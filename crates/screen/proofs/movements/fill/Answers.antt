@@ -18,8 +18,8 @@ write-requires g c =
 
 pub loop-cell-preserved : goal.loop-cell-preserved
 loop-cell-preserved g c = (
-  g.B.Board.keeps.on _ _ _ c.loop-cell.invariant.0 c.in-ok-write.ensures.kept,
-  fill_more g.B.Board.make _ _ _ _ _ _ _ c.loop-cell.invariant.1 (omega arith) c.in-ok-write.ensures.done c.first_mark.ensures c.in-ok-write.ensures.counted refl,
+  g.B.Board.keeps.on _ _ _ c.loop-cell.invariant.0 c.in_ok-write.ensures.kept,
+  fill_more g.B.Board.make _ _ _ _ _ _ _ c.loop-cell.invariant.1 (omega arith) c.in_ok-write.ensures.done c.first_mark.ensures c.in_ok-write.ensures.counted refl,
 )
 
 pub returns : goal.returns
@@ -29,12 +29,12 @@ returns g c = record {
   enough = λ _. refl;
 }
 
-pub returns-in-err-write : goal.returns-in-err-write
-returns-in-err-write g c =
-    let p = err_from_is_err_and c.from-residual.result c.from-residual.ensures.1 in
+pub returns-in_err-write : goal.returns-in_err-write
+returns-in_err-write g c =
+    let p = err_from_is_err_and c.from_residual.result c.from_residual.ensures.1 in
     rw p.1
     (record {
-      kept = g.B.Board.keeps.on _ _ _ c.loop-cell.invariant.0 c.in-err-write.ensures.kept;
+      kept = g.B.Board.keeps.on _ _ _ c.loop-cell.invariant.0 c.in_err-write.ensures.kept;
       done = tt;
-      enough = λ e. absurd (fill_stops g.B.Board.make _ _ _ _ c.loop-cell.invariant.1 (omega arith) c.in-err-write.ensures.done.0 e);
+      enough = λ e. absurd (fill_stops g.B.Board.make _ _ _ _ c.loop-cell.invariant.1 (omega arith) c.in_err-write.ensures.done.0 e);
     })

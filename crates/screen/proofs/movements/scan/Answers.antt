@@ -18,25 +18,25 @@ loop-j-init g c =
 pub read-requires : goal.read-requires
 read-requires g c = let n = scan_count g.B.Board.make _ _ _ _ _ _ _ c.loop-j.invariant.1 in let h = c.requires in omega arith
 
-pub read-source-requires : goal.read-source-requires
-read-source-requires g c =
-    let n = scan_count g.B.Board.make _ _ _ _ _ _ _ c.loop-j.invariant.1 in let h = c.requires in let a = c.in-ok-own.ensures.counted in omega arith
+pub read_source-requires : goal.read_source-requires
+read_source-requires g c =
+    let n = scan_count g.B.Board.make _ _ _ _ _ _ _ c.loop-j.invariant.1 in let h = c.requires in let a = c.in_ok-own.ensures.counted in omega arith
 
-pub read-source-requires-in-loop-j : goal.read-source-requires-in-loop-j
-read-source-requires-in-loop-j g c =
+pub read_source-requires-in-loop-j : goal.read_source-requires-in-loop-j
+read_source-requires-in-loop-j g c =
     let n = scan_count g.B.Board.make _ _ _ _ _ _ _ c.loop-j.invariant.1 in
     let h = c.requires in
-    let a = c.in-ok-own.ensures.counted in
-    let b = c.in-ok-before.ensures.counted in
+    let a = c.in_ok-own.ensures.counted in
+    let b = c.in_ok-before.ensures.counted in
     omega arith
 
 pub write-requires : goal.write-requires
 write-requires g c =
     let n = scan_count g.B.Board.make _ _ _ _ _ _ _ c.loop-j.invariant.1 in
     let h = c.requires in
-    let a = c.in-ok-own.ensures.counted in
-    let b = c.in-ok-before.ensures.counted in
-    let d = c.in-ok-other.ensures.counted in
+    let a = c.in_ok-own.ensures.counted in
+    let b = c.in_ok-before.ensures.counted in
+    let d = c.in_ok-other.ensures.counted in
     omega arith
 
 pub loop-j-preserved : goal.loop-j-preserved
@@ -46,13 +46,13 @@ loop-j-preserved g c =
     let j = c.loop-j.j in
     let h = c.last-j-end.ensures in
     let start = before make _ _ _ _ _ _ _ c.loop-j.invariant.1 (omega arith) in
-    let own = reads_at make c.from.ensures c.in-ok-own.ensures.done in
-    let one = reads_at make (ap (λ z. source z j) c.predecessors-first.ensures.0) c.in-ok-before.ensures.done in
-    let two = reads_at make (ap (λ z. source z j) c.predecessors-first.ensures.1) c.in-ok-other.ensures.done in
-    let put = writes_at make _ c.from-in-loop-j.ensures _ c.in-ok-write.ensures.done in
-    let mark = c.join-in-loop-j.ensures ∙ ap (λ z. g.M.Mark.kind.join z c.in-ok-other.other) c.join.ensures in (
-      on _ _ _ c.loop-j.invariant.0 (on _ _ _ c.in-ok-own.ensures.kept (on _ _ _ c.in-ok-before.ensures.kept (on _ _ _ c.in-ok-other.ensures.kept c.in-ok-write.ensures.kept))),
-      scan_more make _ _ _ _ _ _ _ start _ own c.in-ok-own.ensures.counted _ one c.in-ok-before.ensures.counted _ two c.in-ok-other.ensures.counted _ _ _ put mark c.in-ok-write.ensures.counted refl,
+    let own = reads_at make c.from.ensures c.in_ok-own.ensures.done in
+    let one = reads_at make (ap (λ z. source z j) c.predecessors-first.ensures.0) c.in_ok-before.ensures.done in
+    let two = reads_at make (ap (λ z. source z j) c.predecessors-first.ensures.1) c.in_ok-other.ensures.done in
+    let put = writes_at make _ c.from-in-loop-j.ensures _ c.in_ok-write.ensures.done in
+    let mark = c.join-in-loop-j.ensures ∙ ap (λ z. g.M.Mark.kind.join z c.in_ok-other.other) c.join.ensures in (
+      on _ _ _ c.loop-j.invariant.0 (on _ _ _ c.in_ok-own.ensures.kept (on _ _ _ c.in_ok-before.ensures.kept (on _ _ _ c.in_ok-other.ensures.kept c.in_ok-write.ensures.kept))),
+      scan_more make _ _ _ _ _ _ _ start _ own c.in_ok-own.ensures.counted _ one c.in_ok-before.ensures.counted _ two c.in_ok-other.ensures.counted _ _ _ put mark c.in_ok-write.ensures.counted refl,
     )
 
 pub returns : goal.returns
@@ -60,67 +60,67 @@ returns g c =
     let h = c.last-j-end.ensures in
     record { kept = c.loop-j.invariant.0; done = scan_all g.B.Board.make _ _ _ _ _ _ _ c.loop-j.invariant.1 (omega arith); enough = λ _. refl }
 
-pub returns-in-err-own : goal.returns-in-err-own
-returns-in-err-own g c =
-    let p = err_from_is_err_and c.from-residual.result c.from-residual.ensures.1 in
+pub returns-in_err-own : goal.returns-in_err-own
+returns-in_err-own g c =
+    let p = err_from_is_err_and c.from_residual.result c.from_residual.ensures.1 in
     let h = c.last-j-end.ensures in
     let start = before g.B.Board.make _ _ _ _ _ _ _ c.loop-j.invariant.1 (omega arith) in
     rw p.1
     (record {
-      kept = g.B.Board.keeps.on _ _ _ c.loop-j.invariant.0 c.in-err-own.ensures.kept;
+      kept = g.B.Board.keeps.on _ _ _ c.loop-j.invariant.0 c.in_err-own.ensures.kept;
       done = tt;
-      enough = λ e. absurd (never_refused g.B.Board.make start.underway (refused_at c.from.ensures c.in-err-own.ensures.done.0) e);
+      enough = λ e. absurd (never_refused g.B.Board.make start.underway (refused_at c.from.ensures c.in_err-own.ensures.done.0) e);
     })
 
-pub returns-in-err-before : goal.returns-in-err-before
-returns-in-err-before g c =
-    let p = err_from_is_err_and c.from-residual-in-err-before.result c.from-residual-in-err-before.ensures.1 in
+pub returns-in_err-before : goal.returns-in_err-before
+returns-in_err-before g c =
+    let p = err_from_is_err_and c.from_residual-in_err-before.result c.from_residual-in_err-before.ensures.1 in
     let make = g.B.Board.make in
     let on = g.B.Board.keeps.on in
     let j = c.loop-j.j in
     let h = c.last-j-end.ensures in
     let start = before make _ _ _ _ _ _ _ c.loop-j.invariant.1 (omega arith) in
-    let own = reads_at make c.from.ensures c.in-ok-own.ensures.done in
+    let own = reads_at make c.from.ensures c.in_ok-own.ensures.done in
     let at = ap (λ z. source z j) c.predecessors-first.ensures.0 in
     rw p.1
     (record {
-      kept = on _ _ _ c.loop-j.invariant.0 (on _ _ _ c.in-ok-own.ensures.kept c.in-err-before.ensures.kept);
+      kept = on _ _ _ c.loop-j.invariant.0 (on _ _ _ c.in_ok-own.ensures.kept c.in_err-before.ensures.kept);
       done = tt;
-      enough = λ e. absurd (never_refused make (first_read make _ _ _ _ _ _ _ start _ own c.in-ok-own.ensures.counted) (refused_at at c.in-err-before.ensures.done.0) e);
+      enough = λ e. absurd (never_refused make (first_read make _ _ _ _ _ _ _ start _ own c.in_ok-own.ensures.counted) (refused_at at c.in_err-before.ensures.done.0) e);
     })
 
-pub returns-in-err-other : goal.returns-in-err-other
-returns-in-err-other g c =
-    let p = err_from_is_err_and c.from-residual-in-err-other.result c.from-residual-in-err-other.ensures.1 in
+pub returns-in_err-other : goal.returns-in_err-other
+returns-in_err-other g c =
+    let p = err_from_is_err_and c.from_residual-in_err-other.result c.from_residual-in_err-other.ensures.1 in
     let make = g.B.Board.make in
     let on = g.B.Board.keeps.on in
     let j = c.loop-j.j in
     let h = c.last-j-end.ensures in
     let start = before make _ _ _ _ _ _ _ c.loop-j.invariant.1 (omega arith) in
-    let own = reads_at make c.from.ensures c.in-ok-own.ensures.done in
-    let one = reads_at make (ap (λ z. source z j) c.predecessors-first.ensures.0) c.in-ok-before.ensures.done in
+    let own = reads_at make c.from.ensures c.in_ok-own.ensures.done in
+    let one = reads_at make (ap (λ z. source z j) c.predecessors-first.ensures.0) c.in_ok-before.ensures.done in
     let at = ap (λ z. source z j) c.predecessors-first.ensures.1 in
     rw p.1
     (record {
-      kept = on _ _ _ c.loop-j.invariant.0 (on _ _ _ c.in-ok-own.ensures.kept (on _ _ _ c.in-ok-before.ensures.kept c.in-err-other.ensures.kept));
+      kept = on _ _ _ c.loop-j.invariant.0 (on _ _ _ c.in_ok-own.ensures.kept (on _ _ _ c.in_ok-before.ensures.kept c.in_err-other.ensures.kept));
       done = tt;
-      enough = λ e. absurd (never_refused make (second_read make _ _ _ _ _ _ _ start _ own c.in-ok-own.ensures.counted _ one c.in-ok-before.ensures.counted) (refused_at at c.in-err-other.ensures.done.0) e);
+      enough = λ e. absurd (never_refused make (second_read make _ _ _ _ _ _ _ start _ own c.in_ok-own.ensures.counted _ one c.in_ok-before.ensures.counted) (refused_at at c.in_err-other.ensures.done.0) e);
     })
 
-pub returns-in-err-write : goal.returns-in-err-write
-returns-in-err-write g c =
-    let p = err_from_is_err_and c.from-residual-in-err-write.result c.from-residual-in-err-write.ensures.1 in
+pub returns-in_err-write : goal.returns-in_err-write
+returns-in_err-write g c =
+    let p = err_from_is_err_and c.from_residual-in_err-write.result c.from_residual-in_err-write.ensures.1 in
     let make = g.B.Board.make in
     let on = g.B.Board.keeps.on in
     let j = c.loop-j.j in
     let h = c.last-j-end.ensures in
     let start = before make _ _ _ _ _ _ _ c.loop-j.invariant.1 (omega arith) in
-    let own = reads_at make c.from.ensures c.in-ok-own.ensures.done in
-    let one = reads_at make (ap (λ z. source z j) c.predecessors-first.ensures.0) c.in-ok-before.ensures.done in
-    let two = reads_at make (ap (λ z. source z j) c.predecessors-first.ensures.1) c.in-ok-other.ensures.done in
+    let own = reads_at make c.from.ensures c.in_ok-own.ensures.done in
+    let one = reads_at make (ap (λ z. source z j) c.predecessors-first.ensures.0) c.in_ok-before.ensures.done in
+    let two = reads_at make (ap (λ z. source z j) c.predecessors-first.ensures.1) c.in_ok-other.ensures.done in
     rw p.1
     (record {
-      kept = on _ _ _ c.loop-j.invariant.0 (on _ _ _ c.in-ok-own.ensures.kept (on _ _ _ c.in-ok-before.ensures.kept (on _ _ _ c.in-ok-other.ensures.kept c.in-err-write.ensures.kept)));
+      kept = on _ _ _ c.loop-j.invariant.0 (on _ _ _ c.in_ok-own.ensures.kept (on _ _ _ c.in_ok-before.ensures.kept (on _ _ _ c.in_ok-other.ensures.kept c.in_err-write.ensures.kept)));
       done = tt;
-      enough = λ e. absurd (never_refused make (third_read make _ _ _ _ _ _ _ start _ own c.in-ok-own.ensures.counted _ one c.in-ok-before.ensures.counted _ two c.in-ok-other.ensures.counted) (refused_at c.from-in-loop-j.ensures c.in-err-write.ensures.done.0) e);
+      enough = λ e. absurd (never_refused make (third_read make _ _ _ _ _ _ _ start _ own c.in_ok-own.ensures.counted _ one c.in_ok-before.ensures.counted _ two c.in_ok-other.ensures.counted) (refused_at c.from-in-loop-j.ensures c.in_err-write.ensures.done.0) e);
     })

@@ -13,28 +13,28 @@ loop-i-init g c =
       settle_none b.make k.join k.nothing (first_of c.args.rule.now.words) (second_of c.args.rule.now.words) c.args.rule.now.last (b.cells c.args.board.now) (b.meter c.args.board.now),
     )
 
-pub returns-in-err-touches : goal.returns-in-err-touches
-returns-in-err-touches g c =
-    let p = err_from_is_err_and c.from-residual.result c.from-residual.ensures.1 in
+pub returns-in_err-touches : goal.returns-in_err-touches
+returns-in_err-touches g c =
+    let p = err_from_is_err_and c.from_residual.result c.from_residual.ensures.1 in
     rw p.1
     (record {
-      kept = g.B.Board.keeps.on _ _ _ c.loop-i.invariant.0 c.in-err-touches.ensures.kept;
+      kept = g.B.Board.keeps.on _ _ _ c.loop-i.invariant.0 c.in_err-touches.ensures.kept;
       done = tt;
-      enough = λ e. c.in-err-touches.ensures.enough (settle_enough g.B.Board.make _ _ _ _ _ _ _ c.loop-i.invariant.1 (omega arith) e);
+      enough = λ e. c.in_err-touches.ensures.enough (settle_enough g.B.Board.make _ _ _ _ _ _ _ c.loop-i.invariant.1 (omega arith) e);
     })
 
-pub overflow-add-touches : goal.overflow-add-touches
-overflow-add-touches g c =
+pub overflow_add-touches : goal.overflow_add-touches
+overflow_add-touches g c =
     let n = settle_count g.B.Board.make _ _ _ _ _ _ _ c.loop-i.invariant.1 (omega arith) in
-    let s = c.in-ok-touches.ensures.done.counted in
+    let s = c.in_ok-touches.ensures.done.counted in
     let l = length_scans (first_of c.args.rule.now.words) (second_of c.args.rule.now.words) (suc c.args.rule.now.last) 0 in
     let h = c.requires in
     omega arith
 
 pub loop-i-preserved : goal.loop-i-preserved
 loop-i-preserved g c = (
-  g.B.Board.keeps.on _ _ _ c.loop-i.invariant.0 c.in-ok-touches.ensures.kept,
-  settle_more g.B.Board.make _ _ _ _ _ _ _ c.loop-i.invariant.1 (omega arith) _ _ _ c.in-ok-touches.ensures.done refl refl,
+  g.B.Board.keeps.on _ _ _ c.loop-i.invariant.0 c.in_ok-touches.ensures.kept,
+  settle_more g.B.Board.make _ _ _ _ _ _ _ c.loop-i.invariant.1 (omega arith) _ _ _ c.in_ok-touches.ensures.done refl refl,
 )
 
 pub returns : goal.returns

@@ -3,8 +3,8 @@ use Rattle.syntax.proofs.Spelled.{passed, rest_fits, rest_of}
 use Rattle.syntax.specs.Spelling.{Stuck}
 use Rattle.std.proofs.Common.{refl, subst, arith}
 
-pub overflow-sub-self : goal.overflow-sub-self
-overflow-sub-self c =
+pub overflow_sub-self : goal.overflow_sub-self
+overflow_sub-self c =
     rest_fits c.args.self.now.pattern.now c.args.self.now.place c.if-place-pattern.false c.in-Some.unit c.in-Some.rest.now c.in-Some.ensures
 
 pub returns-in-Some : goal.returns-in-Some

@@ -11,7 +11,7 @@ returns-then-eq c = subst (λ z. Divides c.args.line.now z c.divide-parts.result
 
 pub returns-else-eq : goal.returns-else-eq
 returns-else-eq c = (
-  c.if-is-blank.ensures,
-  c.if-is-comment.ensures,
+  c.if-is_blank.ensures,
+  c.if-is_comment.ensures,
   λ rest d. clash (sym c.if-eq.false ∙ (slice_eq-Decides Decides-eqb _ _ _ c.eq.ensures).1 (one_word c.divide-parts.ensures d)),
 )

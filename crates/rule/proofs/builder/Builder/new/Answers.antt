@@ -5,4 +5,4 @@ use Rattle.rule.specs.Standing.{blank}
 use lib.ListN.{length-replicate}
 
 pub returns : goal.returns
-returns c = begun (replicate 1023 0) (replicate 33 blank) c.word-of.result (length-replicate {A = ℕ} 1023 0) (length-replicate 33 blank) refl c.word-of.ensures
+returns c = begun (replicate 1023 0) (replicate 33 blank) c.word_of.result (length-replicate {A = ℕ} 1023 0) (length-replicate 33 blank) refl c.word_of.ensures

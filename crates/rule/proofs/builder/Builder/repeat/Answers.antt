@@ -1,6 +1,6 @@
 use Rattle.rule.proofs.Stood.{loops_of, no_loops, stood_back, stood_over}
 use Rattle.rule.proofs.builder.Builder.repeat.Goals as goal
-use Rattle.rule.proofs.builder.Builder.repeat.Goals.{else-leads-back, then-leads-back}
+use Rattle.rule.proofs.builder.Builder.repeat.Goals.{else-leads_back, then-leads_back}
 use Rattle.rule.specs.Standing.{LaidDown}
 use Rattle.syntax.specs.declared.PatternUnit.TheVariants.{Repeat}
 use Rattle.std.proofs.Common.{sym, subst}
@@ -9,8 +9,8 @@ pub returns : goal.returns
 returns c us os s =
     let b = c.args.self.now in
     let g = c.args.sign in
-    let d = subst (λ z. LaidDown b (Repeat g) z c.lay.new.self) c.skipped-from.ensures.0 c.lay.ensures in
-    elim c.if-leads-back.branch [
-      | then-leads-back w ↦ stood_back b g c.requires.0 us os s c.lay.new.self d c.if-leads-back.self w.with-last.result w.self-is (loops_of g (sym w.if-leads-back.ensures)) w.with-last.ensures
-      | else-leads-back w ↦ stood_over b g c.requires.0 us os s c.lay.new.self d c.if-leads-back.self w.self-is (no_loops g (sym w.if-leads-back.ensures))
+    let d = subst (λ z. LaidDown b (Repeat g) z c.lay.new.self) c.skipped_from.ensures.0 c.lay.ensures in
+    elim c.if-leads_back.branch [
+      | then-leads_back w ↦ stood_back b g c.requires.0 us os s c.lay.new.self d c.if-leads_back.self w.with_last.result w.self-is (loops_of g (sym w.if-leads_back.ensures)) w.with_last.ensures
+      | else-leads_back w ↦ stood_over b g c.requires.0 us os s c.lay.new.self d c.if-leads_back.self w.self-is (no_loops g (sym w.if-leads_back.ensures))
     ]

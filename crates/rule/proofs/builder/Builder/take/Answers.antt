@@ -20,14 +20,14 @@ inner_of b r =
 pub letter-requires : goal.letter-requires
 letter-requires c = room_of c.args.self.now c.requires
 
-pub open-group-requires : goal.open-group-requires
-open-group-requires c = (room_of c.args.self.now c.requires, c.if-self-gt-MOST-GROUPS.false)
+pub open_group-requires : goal.open_group-requires
+open_group-requires c = (room_of c.args.self.now c.requires, c.if-self-gt-MOST-GROUPS.false)
 
 pub bar-requires : goal.bar-requires
 bar-requires c = inner_of c.args.self.now c.requires
 
-pub close-group-requires : goal.close-group-requires
-close-group-requires c = inner_of c.args.self.now c.requires
+pub close_group-requires : goal.close_group-requires
+close_group-requires c = inner_of c.args.self.now c.requires
 
 pub repeat-requires : goal.repeat-requires
 repeat-requires c =
@@ -51,15 +51,15 @@ returns-in-Plain c us os x s = took_as c.letter.new.self c.args.placed.place us 
 pub returns-else-self-gt-MOST-GROUPS : goal.returns-else-self-gt-MOST-GROUPS
 returns-else-self-gt-MOST-GROUPS c us os x s =
     let h = is_shallow c.args.self.now us os x s c.if-self-gt-MOST-GROUPS.false in
-    took_as c.open-group.new.self c.args.placed.place us os x c.in-Open.is (c.args.placed.place ∷ os, start, an_open h, c.open-group.ensures us os x h s)
+    took_as c.open_group.new.self c.args.placed.place us os x c.in-Open.is (c.args.placed.place ∷ os, start, an_open h, c.open_group.ensures us os x h s)
 
 pub returns-in-Bar : goal.returns-in-Bar
 returns-in-Bar c us os x s = took_as c.bar.new.self c.args.placed.place us os x c.in-Bar.is (os, start, a_bar, c.bar.ensures us os x s)
 
 pub returns-else-self-le1 : goal.returns-else-self-le1
 returns-else-self-le1 c us os x s =
-    took_as c.close-group.new.self c.args.placed.place us os x c.in-Close.is
-    (took_close c.args.self.now c.close-group.new.self c.args.placed.place us os x s c.if-self-le1.false c.close-group.ensures)
+    took_as c.close_group.new.self c.args.placed.place us os x c.in-Close.is
+    (took_close c.args.self.now c.close_group.new.self c.args.placed.place us os x s c.if-self-le1.false c.close_group.ensures)
 
 pub returns-in-Operand : goal.returns-in-Operand
 returns-in-Operand c us os x s =
