@@ -17,7 +17,7 @@ TURNS = [
 ]
 
 
-WORD = re.compile(r"(?:fn|let|let mut|for|mut|ref)\s+([a-z][a-z0-9]*(?:_[a-z0-9]+)+)\b|\b([a-z][a-z0-9]*(?:_[a-z0-9]+)+)\b")
+WORD = re.compile(r"(?:fn|let|let mut|for|mut|ref)\s+([a-z][a-z0-9]*(?:_[a-z0-9]+)+)\b|\b([a-z][a-z0-9]*(?:_[a-z0-9]+)+|[A-Z][A-Z0-9]*(?:_[A-Z0-9]+)+)\b")
 
 
 def words(root):

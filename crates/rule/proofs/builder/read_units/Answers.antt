@@ -1,6 +1,7 @@
 use Rattle.std.proofs.Common.{◌≡◌, ◌<◌, ◌≤◌, length, drop, refl, ◌∙◌, subst, inl, inr, arith}
 use Rattle.rule.proofs.Rounds.{fault_as, first_round, last_round, long_fault, next_round, no_unit_fault, passed_on, passes, unit_fault}
 use Rattle.rule.proofs.builder.read_units.Goals as goal
+use Rattle.rule.proofs.builder.read_units.Goals.{In_ok-take}
 use Rattle.std.proofs.lemmas.Result.{err_from_is_err_and}
 use Rattle.rule.specs.Standing.{Took}
 use Rattle.syntax.specs.Reading.{Passed}
@@ -29,18 +30,18 @@ returns-in_err-placed c =
           (no_unit_fault xs at low c.loop-place.builder r few (subst (λ z. Stuck (drop at z)) same f.stuck))
     ])
 
-read_one : (c : goal.In_ok-take) → (c.in-Some-2.placed.place ≡ c.loop-place.reader.place) × Passed c.args.pattern.now c.loop-place.reader.place c.in-Some-2.placed.unit c.next_unit.new.reader.place
+read_one : (c : In_ok-take) → (c.in-Some-2.placed.place ≡ c.loop-place.reader.place) × Passed c.args.pattern.now c.loop-place.reader.place c.in-Some-2.placed.unit c.next_unit.new.reader.place
 read_one c = passes c.loop-place.reader.place c.next_unit.new.reader.place c.loop-place.invariant.0 c.in-Some-2.is c.in_ok-placed.ensures.reads.1
 
-pub loop-place-smaller-in-Continue·-branch-3 : goal.loop-place-smaller-in-Continue·-branch-3
-loop-place-smaller-in-Continue·-branch-3 c =
+pub loop-place-smaller-in-Continue-branch-3 : goal.loop-place-smaller-in-Continue-branch-3
+loop-place-smaller-in-Continue-branch-3 c =
     let w = (read_one c).1 in
     let h = passed_on c.args.pattern.now c.loop-place.reader.place c.in-Some-2.placed.unit c.next_unit.new.reader.place w in
     let k = w.within in
     omega arith
 
-pub loop-place-preserved-in-Continue·-branch-3 : goal.loop-place-preserved-in-Continue·-branch-3
-loop-place-preserved-in-Continue·-branch-3 c =
+pub loop-place-preserved-in-Continue-branch-3 : goal.loop-place-preserved-in-Continue-branch-3
+loop-place-preserved-in-Continue-branch-3 c =
     let (same, low, r) = c.loop-place.invariant in
     let (place, w) = read_one c in
     let took = c.in_ok-take.ensures r.us r.os r.x r.stands in (

@@ -21,7 +21,7 @@ pub letter-requires : goal.letter-requires
 letter-requires c = room_of c.args.self.now c.requires
 
 pub open_group-requires : goal.open_group-requires
-open_group-requires c = (room_of c.args.self.now c.requires, c.if-self-gt-MOST-GROUPS.false)
+open_group-requires c = (room_of c.args.self.now c.requires, c.if-self-gt-MOST_GROUPS.false)
 
 pub bar-requires : goal.bar-requires
 bar-requires c = inner_of c.args.self.now c.requires
@@ -33,8 +33,8 @@ pub repeat-requires : goal.repeat-requires
 repeat-requires c =
     (room_of c.args.self.now c.requires, (start_low c.args.self.now c.requires c.in-Operand.is, start_word c.args.self.now c.requires c.in-Operand.is))
 
-pub returns-then-self-gt-MOST-GROUPS : goal.returns-then-self-gt-MOST-GROUPS
-returns-then-self-gt-MOST-GROUPS c us os x s = (refused_as c.in-Open.is (is_deep c.args.self.now us os x s c.if-self-gt-MOST-GROUPS.true), refl)
+pub returns-then-self-gt-MOST_GROUPS : goal.returns-then-self-gt-MOST_GROUPS
+returns-then-self-gt-MOST_GROUPS c us os x s = (refused_as c.in-Open.is (is_deep c.args.self.now us os x s c.if-self-gt-MOST_GROUPS.true), refl)
 
 pub returns-then-self-le1 : goal.returns-then-self-le1
 returns-then-self-le1 c us os x s = (refused_as c.in-Close.is (is_closed c.args.self.now us os x s c.if-self-le1.true), refl)
@@ -48,9 +48,9 @@ returns-in-Sign c us os x s = (refused_as c.in-Repeat.is (refused_again c.in-Rep
 pub returns-in-Plain : goal.returns-in-Plain
 returns-in-Plain c us os x s = took_as c.letter.new.self c.args.placed.place us os x c.in-Plain.is (os, operand, a_letter, c.letter.ensures us os x s)
 
-pub returns-else-self-gt-MOST-GROUPS : goal.returns-else-self-gt-MOST-GROUPS
-returns-else-self-gt-MOST-GROUPS c us os x s =
-    let h = is_shallow c.args.self.now us os x s c.if-self-gt-MOST-GROUPS.false in
+pub returns-else-self-gt-MOST_GROUPS : goal.returns-else-self-gt-MOST_GROUPS
+returns-else-self-gt-MOST_GROUPS c us os x s =
+    let h = is_shallow c.args.self.now us os x s c.if-self-gt-MOST_GROUPS.false in
     took_as c.open_group.new.self c.args.placed.place us os x c.in-Open.is (c.args.placed.place ∷ os, start, an_open h, c.open_group.ensures us os x h s)
 
 pub returns-in-Bar : goal.returns-in-Bar
