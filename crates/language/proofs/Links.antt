@@ -1,12 +1,11 @@
 -- The links of a tree are those that its units give when read from the left.
 use Rattle.language.proofs.Option.{never}
 use Rattle.language.specs.LeftToRight.{Linked, OpenGroup}
-use Rattle.language.specs.Links.{BranchStart, Link, SignLink, branch_end, size}
+use Rattle.language.specs.Links.{BranchStart, Link, branch_end, size}
 use Rattle.language.specs.Patterns.{Sort, Tree, alternatives, atom, branch, empty, group, letter, once, only, piece, repeated, units, ◌or◌, ◌then◌}
-use Rattle.syntax.specs.declared.PatternUnit.TheVariants.{Bar, Close, Open, Plain, Repeat}
+use Rattle.syntax.specs.declared.PatternUnit.TheVariants.{Bar, Close, Repeat}
 use Rattle.syntax.specs.declared.PatternUnit.{PatternUnit}
-use Rattle.syntax.specs.declared.Sign.{Sign}
-use Rattle.std.proofs.Common.{◌≡◌, ℕ, zero, suc, ◌+◌, ◌<◌, ◌≤◌, ◌⊎◌, List, [], ◌∷◌, ◌++◌, Some, None, Option, sym, refl, ap, ◌∙◌, subst, ap₂, inl, inr, append_assoc, append-nil, arith}
+use Rattle.std.proofs.Common.{◌≡◌, ℕ, suc, ◌+◌, ◌⊎◌, List, [], ◌∷◌, ◌++◌, Some, None, sym, refl, ap, ◌∙◌, subst, inl, inr, append_assoc, append-nil, arith}
 
 -- the position after each Bar
 abbrev After : Tree alternatives → ℕ → ℕ → Type 0

@@ -1,6 +1,6 @@
 -- A position has its predecessors in one order only, and the same ones under the same links.
 use Rattle.language.proofs.Option.{never, some_same}
-use Rattle.std.proofs.Common.{◌≡◌, ℕ, ◌<◌, ◌⊎◌, Some, None, Option, sym, refl, ap, ◌∙◌, subst, inl, inr, arith}
+use Rattle.std.proofs.Common.{◌≡◌, ℕ, ◌<◌, Some, None, Option, sym, refl, ap, ◌∙◌, subst, inl, inr, arith}
 use Rattle.language.specs.Links.{Predecessors}
 
 module _ (link : ℕ → ℕ → Type 0) (k : ℕ) where

@@ -1,9 +1,9 @@
 -- The theorems on links and on the smallest patterns.
-use Rattle.std.proofs.Common.{◌≡◌, ℕ, ◌<◌, ◌⊎◌, List, [], ◌∷◌, Some, None, Option, sym, refl, ◌∙◌, subst, inl, inr}
+use Rattle.std.proofs.Common.{◌≡◌, ℕ, ◌<◌, ◌⊎◌, Some, Option, sym, refl, ◌∙◌, subst, inl, inr}
 use Rattle.language.proofs.Option.{some_same}
 use Rattle.language.proofs.Settled.{settled}
 use Rattle.language.proofs.Two.{at_most_two}
-use Rattle.language.specs.Links.{LinksOf, Predecessors}
+use Rattle.language.specs.Links.{LinksOf}
 use Rattle.language.specs.Theorems.{AtMostTwoLinksComeIn, EmptyFormsAndThePeriod, PredecessorsAreSettled}
 
 both : (a : Option ℕ) (i j : ℕ) → a ≡ Some i → a ≡ Some j → i ≡ j

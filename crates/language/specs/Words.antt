@@ -1,6 +1,6 @@
 -- The language of a pattern: which byte strings belong to it.
 use Rattle.std.specs.Prelude.{◌≡◌, ℕ, zero, suc, ◌<◌, ◌≤◌, ◌⊎◌, List, [], ◌∷◌, ◌++◌}
-use Rattle.language.specs.Patterns.{Sort, Tree, alternatives, empty, group, letter, once, only, repeated, ◌or◌, ◌then◌}
+use Rattle.language.specs.Patterns.{Sort, Tree, empty, group, letter, once, only, repeated, ◌or◌, ◌then◌}
 use Rattle.syntax.specs.declared.Letter.TheVariants.{Any, Byte}
 use Rattle.syntax.specs.declared.Letter.{Letter}
 use Rattle.syntax.specs.declared.Sign.TheVariants.{Opt, Plus, Star}

@@ -5,7 +5,7 @@ use Rattle.mark.specs.Marks.{Kind, Laws}
 use Rattle.mark.specs.declared.start.Start.{Start}
 use Rattle.mark.specs.declared.tail.Tail.TheVariants.{From, Nothing}
 use Rattle.mark.specs.declared.tail.Tail.{Tail}
-use Rattle.std.proofs.Common.{ltb-false, ltb-true, ap, sym, ◌∙◌, arith}
+use Rattle.std.proofs.Common.{ltb-false, ltb-true, ap, arith}
 use mathlib.Core.HLevel.{is_prop→PathP}
 use Rattle.std.proofs.Math.Bridge.{le_prop}
 use Rattle.std.proofs.Math.Decide.{dec_le}

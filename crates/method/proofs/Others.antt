@@ -1,6 +1,6 @@
 -- Movements leave the cells above the last position alone.
-use Rattle.std.proofs.Common.{◌≡◌, ℕ, zero, suc, ◌+◌, ◌<◌, ◌≤◌, Bool, ◌≢◌, List, length, get_or, set, Option, sym, refl, ap, ◌∙◌, subst, arith, length-set, get_or-set_other}
-use Rattle.method.specs.Cells.{across, filled, first_mark, joined_at, placed, scan_from, scanned, shift, shift_over, stepped, stepped_over, wiped}
+use Rattle.std.proofs.Common.{◌≡◌, ℕ, zero, suc, ◌+◌, ◌≤◌, Bool, ◌≢◌, List, get_or, set, Option, sym, refl, ap, ◌∙◌, subst, arith, length-set, get_or-set_other}
+use Rattle.method.specs.Cells.{across, filled, first_mark, joined_at, scan_from, shift, shift_over, stepped, stepped_over}
 use Rattle.method.specs.Theorems.{LeavesOthers, MovementsLeaveOtherCells}
 
 module _ {M : Type 0} where

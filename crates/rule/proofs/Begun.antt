@@ -8,7 +8,6 @@ use Rattle.rule.proofs.Stood.{writes_over}
 use Rattle.rule.specs.Growing.{Grown}
 use Rattle.rule.specs.Standing.{Stands, blank, open_of}
 use Rattle.rule.specs.Words.{Says}
-use Rattle.rule.specs.declared.builder.Builder.{Builder}
 use Rattle.rule.specs.declared.builder.Group.{Group}
 use Rattle.rule.specs.declared.builder.Last.TheVariants as last
 use Rattle.rule.specs.declared.word.Kind.TheVariants as kind

@@ -3,8 +3,7 @@ use Rattle.language.proofs.Option.{never, some_same}
 use Rattle.language.specs.Links.{Predecessors}
 use Rattle.rule.specs.Growing.{Apart}
 use Rattle.rule.specs.Words.{firsts, seconds}
-use Rattle.std.proofs.Common.{◌≡◌, ℕ, suc, ◌+◌, ◌<◌, ◌≤◌, Bool, true, false, cond, ltb, ◌⊎◌, ◌↔◌, List, [], ◌∷◌, ◌++◌, length, get_or, Some, None, Option, sym, refl, ap, ◌∙◌, subst, inl, inr, append_assoc, arith, length-append, ltb-false, ltb-true}
-use native.Mathlib.Decide.{dec_lt}
+use Rattle.std.proofs.Common.{◌≡◌, ℕ, ◌<◌, Bool, true, false, cond, ltb, ◌⊎◌, ◌↔◌, Some, None, Option, sym, refl, ap, inl, inr, arith, ltb-false, ltb-true}
 
 -- two that are apart, in order
 cond_either : (t : Bool) (x y i : ℕ) → (cond t (Some x) (Some y) ≡ Some i) ⊎ (cond t (Some y) (Some x) ≡ Some i) → (Some x ≡ Some i) ⊎ (Some y ≡ Some i)

@@ -11,9 +11,9 @@ use Rattle.syntax.specs.declared.PatternUnit.TheVariants.{Bar, Close, Open, Plai
 use Rattle.syntax.specs.declared.PatternUnit.{PatternUnit}
 use Rattle.syntax.specs.declared.Sign.TheVariants.{Opt, Plus, Star}
 use Rattle.syntax.specs.declared.Sign.{Sign}
-use Rattle.std.proofs.Common.{◌≡◌, ℕ, zero, suc, ◌+◌, ◌<◌, ◌≤◌, ◌⊎◌, ◌↔◌, List, [], ◌∷◌, ◌++◌, length, get_or, Some, None, Option, sym, refl, ap, ◌∙◌, subst, inl, inr, append_assoc, arith}
+use Rattle.std.proofs.Common.{◌≡◌, ℕ, suc, ◌<◌, ◌≤◌, ◌⊎◌, ◌↔◌, List, [], ◌∷◌, ◌++◌, Some, None, Option, sym, refl, ap, ◌∙◌, inl, inr, arith}
 use Rattle.rule.proofs.Grow.{keep}
-use Rattle.rule.proofs.Step.{Adds, Writes, Loose, sum, count', splits', low', ahead', single', laid'}
+use Rattle.rule.proofs.Step.{Adds, Writes, sum, count', splits', low', ahead', single', laid'}
 
 under_up : (a : Option ℕ) (p : ℕ) → Under a p → Under a (suc p)
 under_up None p u = tt

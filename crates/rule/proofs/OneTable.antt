@@ -1,10 +1,10 @@
 -- A pattern has one table.
-use Rattle.std.proofs.Common.{◌≡◌, ℕ, suc, ◌+◌, ◌/◌, ◌%◌, ◌<◌, ◌≤◌, List, length, get_or, Some, None, Option, sym, ◌∙◌, subst, arith}
+use Rattle.std.proofs.Common.{◌≡◌, ℕ, ◌/◌, ◌%◌, ◌≤◌, List, get_or, Some, None, Option, sym, ◌∙◌, subst, arith}
 use Rattle.language.proofs.Answered.{one_answer}
 use Rattle.language.proofs.Settled.{settled}
 use Rattle.language.specs.Links.{LinksOf}
 use Rattle.language.specs.Patterns.{group, units}
-use Rattle.rule.specs.Tables.{EachPatternHasOneTable, RuleOf, TableOf, WordAt, WordsOf}
+use Rattle.rule.specs.Tables.{EachPatternHasOneTable, TableOf, WordAt, WordsOf}
 use Rattle.rule.specs.Words.{Holds, Says, byte_of, kind_of}
 use Rattle.rule.specs.declared.word.Kind.TheVariants.{End}
 use Rattle.rule.specs.declared.word.Kind.{Kind}

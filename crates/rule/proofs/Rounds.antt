@@ -1,8 +1,8 @@
 -- One round of the reading.
-use Rattle.std.proofs.Common.{◌≡◌, ℕ, suc, ◌+◌, ◌<◌, ◌≤◌, List, [], ◌∷◌, ◌++◌, length, get_or, take, drop, Some, Ok, Option, sym, refl, ap, ◌∙◌, subst, append_assoc, arith, length-append, length-drop, take-append-drop, length-take-le, take_all}
+use Rattle.std.proofs.Common.{◌≡◌, ℕ, suc, ◌<◌, ◌≤◌, List, [], ◌∷◌, ◌++◌, length, get_or, take, drop, Some, Ok, Option, sym, refl, ap, ◌∙◌, subst, append_assoc, arith, length-append, length-drop, take-append-drop, length-take-le, take_all}
 use Rattle.language.proofs.Spelt.{spells_some}
 use Rattle.language.proofs.Trees.{reads_few}
-use Rattle.language.specs.Faults.{Faulty, Goes, Reads, Refused, more, no_unit, nothing, refused, start, too_long, Before}
+use Rattle.language.specs.Faults.{Faulty, Goes, Refused, more, no_unit, nothing, refused, start, too_long, Before}
 use Rattle.language.specs.Limits.{most_units}
 use Rattle.rule.specs.Standing.{ReadTo, Stands, Took}
 use Rattle.rule.specs.declared.builder.Builder.{Builder}

@@ -8,7 +8,7 @@ use Rattle.rule.specs.Words.{Says, Under, byte_of, firsts, kind_of, seconds}
 use Rattle.rule.specs.declared.word.Kind.{Kind}
 use Rattle.syntax.specs.declared.PatternUnit.TheVariants.{Close}
 use Rattle.syntax.specs.declared.PatternUnit.{PatternUnit}
-use Rattle.std.proofs.Common.{◌≡◌, ℕ, zero, suc, ◌+◌, ◌<◌, ◌≤◌, ◌⊎◌, ◌↔◌, List, [], ◌∷◌, ◌++◌, length, get_or, Some, None, Option, sym, refl, ap, ◌∙◌, subst, inl, inr, append_assoc, arith, length-append}
+use Rattle.std.proofs.Common.{◌≡◌, ℕ, zero, suc, ◌<◌, ◌≤◌, ◌⊎◌, ◌↔◌, List, [], ◌∷◌, ◌++◌, length, get_or, Some, None, Option, sym, refl, ap, ◌∙◌, subst, inl, inr, append_assoc, arith, length-append}
 use native.Mathlib.Decide.{dec_lt, ℕ_discrete}
 use Rattle.language.proofs.Settled.{settled}
 use Rattle.rule.proofs.Grow.{add, fresh, keep}

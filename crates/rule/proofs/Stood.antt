@@ -1,6 +1,6 @@
 -- How a builder stands after one more unit.
 use Rattle.language.specs.Faults.{Before, operand, sign, start}
-use Rattle.language.specs.LeftToRight.{Linked, OpenGroup}
+use Rattle.language.specs.LeftToRight.{OpenGroup}
 use Rattle.language.specs.Limits.{most_groups, most_units}
 use Rattle.language.specs.Links.{Loops, plus_loops, star_loops}
 use Rattle.rule.proofs.GrownBy.{grown_bar, grown_close, grown_letter, grown_open, grown_sign}
@@ -18,7 +18,7 @@ use Rattle.syntax.specs.declared.PatternUnit.{PatternUnit}
 use Rattle.syntax.specs.declared.Sign.TheVariants.{Opt, Plus, Star}
 use Rattle.syntax.specs.declared.Sign.{Sign}
 use borrow.Author.Tests.{clash}
-use Rattle.std.proofs.Common.{◌≡◌, ℕ, zero, suc, ◌+◌, ◌-◌, ◌%◌, ◌<◌, ◌≤◌, true, false, ◌≢◌, ◌⊎◌, ◌↔◌, List, [], ◌∷◌, ◌++◌, length, get_or, set, Some, None, Option, sym, refl, ap, ◌∙◌, subst, inl, inr, append_assoc, add-one, arith, length-set, get_or-set_other, get_or-set_same}
+use Rattle.std.proofs.Common.{◌≡◌, ℕ, suc, ◌+◌, ◌-◌, ◌<◌, ◌≤◌, true, false, ◌≢◌, List, [], ◌∷◌, ◌++◌, length, get_or, set, Some, None, Option, sym, refl, ap, ◌∙◌, subst, add-one, arith, length-set, get_or-set_other, get_or-set_same}
 use native.Mathlib.Decide.{ℕ_discrete}
 
 -- one word laid, and nothing led back

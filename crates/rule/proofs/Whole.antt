@@ -1,5 +1,5 @@
 -- The finished table, and what it is the table of.
-use Rattle.std.proofs.Common.{◌≡◌, ℕ, suc, ◌+◌, ◌-◌, ◌<◌, ◌≢◌, List, [], ◌∷◌, ◌++◌, length, get_or, set, Some, None, Option, sym, ap, ◌∙◌, subst, add-one, arith, length-append, length-set, get_or-set_other, get_or-set_same}
+use Rattle.std.proofs.Common.{◌≡◌, ℕ, suc, ◌+◌, ◌-◌, ◌<◌, ◌≢◌, List, [], ◌∷◌, ◌++◌, length, get_or, set, Some, None, sym, ap, ◌∙◌, subst, add-one, arith, length-append, length-set, get_or-set_other, get_or-set_same}
 use Rattle.language.proofs.Exact.{one_reading}
 use Rattle.language.proofs.Links.{link_linked, linked_link}
 use Rattle.language.proofs.Settled.{predecessors_as}
@@ -12,7 +12,7 @@ use Rattle.language.specs.Patterns.{Tree, alternatives, group, units}
 use Rattle.rule.proofs.GrownBy.{grown_close}
 use Rattle.rule.proofs.Stood.{top, writes_over}
 use Rattle.rule.specs.Growing.{Grown, Sofar}
-use Rattle.rule.specs.Standing.{LaidDown, OpenedLast, ReadTo, Room, Stands, blank}
+use Rattle.rule.specs.Standing.{LaidDown, OpenedLast, ReadTo, Stands, blank}
 use Rattle.rule.specs.Tables.{RuleOf, TableOf, WordAt, WordsOf}
 use Rattle.rule.specs.Words.{Says, byte_of, firsts, kind_of, seconds}
 use Rattle.rule.specs.declared.builder.Builder.{Builder}

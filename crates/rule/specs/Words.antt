@@ -6,7 +6,6 @@ use Rattle.syntax.specs.declared.Letter.TheVariants.{Any, Byte}
 use Rattle.syntax.specs.declared.PatternUnit.TheVariants.{Bar, Close, Open, Plain, Repeat}
 use Rattle.syntax.specs.declared.PatternUnit.{PatternUnit}
 use Rattle.syntax.specs.declared.Sign.TheVariants.{Opt, Plus, Star}
-use Rattle.syntax.specs.declared.Sign.{Sign}
 
 abbrev pub kind_number : Kind → ℕ
 kind_number kind.Byte = 0

@@ -1,10 +1,10 @@
 -- What the tests of the reader say of the bytes.
-use Rattle.std.proofs.Common.{◌≡◌, ℕ, suc, ◌+◌, ◌-◌, ◌*◌, ◌<◌, ◌≤◌, ◌⊎◌, List, [], ◌∷◌, ◌++◌, length, get_or, take, drop, Some, None, Option, sym, refl, ap, ◌∙◌, subst, inl, inr, arith, length-append, length-drop, take_all, drop-drop, MatchOption}
+use Rattle.std.proofs.Common.{◌≡◌, ℕ, ◌+◌, ◌-◌, ◌*◌, ◌<◌, ◌≤◌, ◌⊎◌, List, [], ◌∷◌, ◌++◌, length, get_or, take, drop, Some, None, Option, sym, refl, ap, ◌∙◌, subst, inl, inr, arith, length-append, length-drop, take_all, drop-drop, MatchOption}
 use Rattle.syntax.specs.Reading.{Passed}
 use Rattle.syntax.specs.declared.Letter.TheVariants.{Byte}
 use Rattle.syntax.specs.declared.PatternUnit.TheVariants.{Plain}
 use Rattle.syntax.specs.declared.PatternUnit.{PatternUnit}
-use Rattle.syntax.specs.Spelling.{Among, Special, Digit, Spells, ordinary, escaped, coded, Escapes, of_special, of_digits, Stuck, backslash, bare, bare_specials, Begins}
+use Rattle.syntax.specs.Spelling.{Among, Special, Digit, Spells, escaped, coded, Escapes, of_special, of_digits, Stuck, backslash, bare, bare_specials, Begins}
 
 pub rest_of : (k : ℕ) (xs : List ℕ) → take (length xs - k) (drop k xs) ≡ drop k xs
 rest_of k xs = take_all (length xs - k) (drop k xs) (simp length-drop (omega arith))

@@ -1,4 +1,4 @@
-use Rattle.std.proofs.Common.{Some, None, arith, rules}
+use Rattle.std.proofs.Common.{arith, rules}
 use Rattle.syntax.proofs.Spelled.{lone_begins, stuck_escape, stuck_bare, none_is}
 use Rattle.syntax.proofs.first_unit.Goals as goal
 

@@ -1,5 +1,4 @@
-use Rattle.std.proofs.Common.{[], ◌∷◌, sym, subst, rules}
-use Rattle.syntax.specs.Spelling.{Spells, open_sign, close_sign, bar_sign, star_sign, plus_sign, opt_sign, period, ordinary}
+use Rattle.syntax.specs.Spelling.{open_sign, close_sign, bar_sign, star_sign, plus_sign, opt_sign, period, ordinary}
 use Rattle.syntax.proofs.lone.Goals as goal
 
 pub returns-in-40 : goal.returns-in-40

@@ -1,7 +1,7 @@
 use Rattle.syntax.proofs.Reader.next_unit.Goals as goal
 use Rattle.syntax.proofs.Spelled.{passed, rest_fits, rest_of}
 use Rattle.syntax.specs.Spelling.{Stuck}
-use Rattle.std.proofs.Common.{refl, subst, arith}
+use Rattle.std.proofs.Common.{refl, subst}
 
 pub overflow_sub-self : goal.overflow_sub-self
 overflow_sub-self c =

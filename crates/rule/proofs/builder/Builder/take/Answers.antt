@@ -1,6 +1,6 @@
 use Rattle.std.proofs.Common.{◌+◌, ◌<◌, ◌≤◌, ◌∷◌, sym, refl, ap, ◌∙◌, arith}
 use Rattle.language.specs.Faults.{a_bar, a_letter, an_open, operand, start}
-use Rattle.language.specs.Limits.{most_groups, most_units}
+use Rattle.language.specs.Limits.{most_groups}
 use Rattle.rule.proofs.Readied.{bar_at, depth_high, depth_low, is_closed, is_deep, is_shallow, refused_again, refused_as, refused_first, room_at, start_low, start_word, took_as, took_close, took_sign}
 use Rattle.rule.proofs.builder.Builder.take.Goals as goal
 use Rattle.rule.specs.Standing.{OpenedLast, Ready, Room, before_of}
