@@ -1,5 +1,5 @@
 -- A check that computes whether a worked case holds, with the evidence, and the list of cases under it.
-use Rattle.std.proofs.Common.{◌≡◌, ℕ, zero, suc, ◌-◌, ◌/◌, ◌%◌, ◌<◌, Bool, true, false, List, [], ◌∷◌, length, get_or, Some, None, Option, sym, refl, subst, arith}
+use Rattle.std.proofs.Common.{◌≡◌, ℕ, zero, suc, ◌-◌, ◌/◌, ◌%◌, ◌<◌, Bool, true, false, List, [], ◌∷◌, length, get_or, Some, None, Option, refl, subst, arith}
 use Rattle.cases.specs.Cases.{Case, CaseHolds, Every, WorkedCasesHold, stop, table, worked_cases}
 use Rattle.language.proofs.Decided.{Outcome, accepts, decide, faults}
 use Rattle.language.proofs.Exact.{one_reading}
@@ -7,7 +7,7 @@ use Rattle.language.proofs.Parsed.{group_proper}
 use Rattle.language.proofs.Trees.{accepted_reads, reads_accepted}
 use Rattle.language.proofs.Two.{two_predecessors}
 use Rattle.language.specs.Faults.{Before, Faulty, Reads}
-use Rattle.language.specs.LeftToRight.{Linked, Proper}
+use Rattle.language.specs.LeftToRight.{Proper}
 use Rattle.rule.proofs.Whole.{framed, ruled_at}
 use Rattle.rule.specs.Growing.{Sofar}
 use Rattle.rule.specs.Tables.{RuleOf, WordAt, WordsOf}

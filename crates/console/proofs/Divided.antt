@@ -1,5 +1,5 @@
 -- A line is taken apart at its first space in one way.
-use Rattle.std.proofs.Common.{◌≡◌, ℕ, zero, suc, ◌+◌, ◌-◌, ◌<◌, ◌≤◌, Bool, true, false, cond, eqb, ◌⊎◌, List, [], ◌∷◌, ◌++◌, length, get_or, take, drop, sym, refl, ap, ◌∙◌, subst, inl, inr, append-nil, add-one, arith, take-append-drop, length-take-le, drop-cons, get_or-take, ne_eqb}
+use Rattle.std.proofs.Common.{◌≡◌, ℕ, suc, ◌+◌, ◌-◌, ◌<◌, ◌≤◌, false, cond, eqb, ◌⊎◌, List, [], ◌∷◌, ◌++◌, length, get_or, take, drop, sym, refl, ap, ◌∙◌, subst, inl, inr, append-nil, add-one, arith, take-append-drop, length-take-le, drop-cons, get_or-take, ne_eqb}
 use Rattle.console.specs.Lines.{Comment, Divides}
 use Rattle.syntax.proofs.Spelled.{rest_of, split_1}
 

@@ -67,7 +67,7 @@ impl<'a> Command<'a> {
             return Command::Nothing;
         }
         let parts = divide(line);
-        if parts.word == b"load" {
+        if parts.word == b"load".as_slice() {
             Command::Load(parts.rest)
         } else {
             Command::Unknown
