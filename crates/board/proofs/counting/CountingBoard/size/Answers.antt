@@ -2,4 +2,4 @@ use Rattle.std.proofs.Common.{sym, ◌∙◌, length-take}
 use Rattle.board.proofs.counting.CountingBoard.size.Goals as goal
 
 pub returns : goal.returns
-returns g c = c.cells-in.ensures ∙ sym (length-take _ _)
+returns g c = c.cells_in.ensures ∙ sym (length-take _ _)

@@ -6,17 +6,17 @@ use Rattle.board.specs.Traced.{traced_still}
 use Rattle.std.proofs.lemmas.Result.{err_from_is_err_and}
 use Rattle.std.proofs.Common.{length, refl, arith}
 
-pub returns-in-err-at : goal.returns-in-err-at
-returns-in-err-at g c =
+pub returns-in_err-at : goal.returns-in_err-at
+returns-in_err-at g c =
     let a = c.args.self.now in
-    let p = err_from_is_err_and c.from-residual.result c.from-residual.ensures.1 in
-    rw (p.1, p.2) (record { kept = traced_still _; done = not_admitted (length a.words.now) a.used a.marks.now _ _ c.in-err-at.ensures })
+    let p = err_from_is_err_and c.from_residual.result c.from_residual.ensures.1 in
+    rw (p.1, p.2) (record { kept = traced_still _; done = not_admitted (length a.words.now) a.used a.marks.now _ _ c.in_err-at.ensures })
 
 pub returns : goal.returns
 returns g c =
     let a = c.args.self.now in
     let xs = a.marks.now in
-    let n = c.in-ok-at.ensures in
+    let n = c.in_ok-at.ensures in
     let words' = c.put.new.slice in
     let w = c.word.result in
     record {
