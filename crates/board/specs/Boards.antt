@@ -1,5 +1,5 @@
 -- What a make of board is, and what an access does.
-use Rattle.std.specs.Prelude.{◌≡◌, ℕ, ◌+◌, ◌<◌, ◌≤◌, List, [], ◌∷◌, length, get_or, Ok, Err, Result, slice_index_or, slice_set}
+use Rattle.std.specs.Prelude.{◌≡◌, ℕ, ◌+◌, ◌<◌, ◌≤◌, List, [], ◌∷◌, length, Ok, Err, Result, slice_index_or, slice_set}
 use Rattle.stops.specs.Stops.{stop_number}
 use Rattle.stops.specs.declared.Stop.{Stop}
 
@@ -41,7 +41,7 @@ pub record Accepted (size allowance i : ℕ) : Type 0 where
 
 module _ {M X : Type 0} (make : Make X) (cells : List M) (meter : X) (i : ℕ) where
   -- A read of cell i answers r, and leaves the board at cells' and meter'. An accepted one answers the mark at i, which lies
-  -- inside, so that the default of get_or does not matter.
+  -- inside, so that the default of slice_index_or does not matter.
   abbrev pub Reads : List M → X → Result M Stop → Type 0
   Reads cells' meter' (Ok m) =
       Accepted (length cells) (make.allowed (length cells) meter) i × (m ≡ slice_index_or cells i m) × (cells' ≡ cells) × (meter' ≡ make.step (length cells) meter (read i))

@@ -1,5 +1,5 @@
 -- One access as a step of the fold, and what the slices hold when the board is gone.
-use Rattle.std.proofs.Common.{◌≡◌, ℕ, min, Bool, true, false, cond, ◌&&◌, ltb, List, ◌++◌, length, take, drop, Ok, Err, Result, sym, refl, ap, ◌∙◌, inl, inr, arith, take-append-drop, length-take, Bor, le-ltb, lt-ltb}
+use Rattle.std.proofs.Common.{◌≡◌, ℕ, min, Bool, true, false, cond, ◌&&◌, ltb, List, ◌++◌, length, take, drop, Ok, Err, Result, sym, refl, ap, ◌∙◌, inl, inr, arith, take-append-drop, length-take, MutBor, le-ltb, lt-ltb}
 use Rattle.board.specs.Boards.{Accepted, Make, Refused, most_cells, no_allowance, no_cell}
 use Rattle.board.specs.Lent.{Lent}
 use Rattle.board.specs.Traced.{Traced}
@@ -39,7 +39,7 @@ module _ {M X : Type 0} (make : Make X) (cells : List M) (meter : X) where
   touched (Write i m) cells' meter' (Err s) t = chosen _ false _ _ (refused_test t.0) ∙ sym (same_state t.1 t.2)
 
 -- what a lent slice of marks holds when its board is gone
-pub marks_left : {M : Type 0} (was : List M) (a b : Bor (List M)) {left cells : List M} → Lent a b → a.now ≡ was → left ≡ b.now → take most_cells b.now ≡ cells → left ≡ cells ++ drop most_cells was
+pub marks_left : {M : Type 0} (was : List M) (a b : MutBor (List M)) {left cells : List M} → Lent a b → a.now ≡ was → left ≡ b.now → take most_cells b.now ≡ cells → left ≡ cells ++ drop most_cells was
 marks_left was a b {left} {cells} lent e back at =
     back
     ∙ sym (take-append-drop most_cells b.now)

@@ -21,8 +21,8 @@ pub enum Access<M> {
 
 /// Makes one access. A read answers the mark of the cell, a write the mark written.
 pub fn touch<B: Board>(board: &mut B, access: Access<B::M>) -> Result<B::M, Stop>
-    ensures kept { keeps.same board.old board.new }
-    ensures done { Touches make (cells board.old) (meter board.old) access (cells board.new) (meter board.new) result }
+    ensures kept { B.keeps.same board.old board.new }
+    ensures done { Touches B.make (B.cells board.old) (B.meter board.old) access (B.cells board.new) (B.meter board.new) result }
 {
     match access {
         Access::Read(cell) => board.read(cell),
@@ -35,8 +35,8 @@ pub fn touch<B: Board>(board: &mut B, access: Access<B::M>) -> Result<B::M, Stop
 
 /// Makes accesses in their order. A refused one changes nothing and is passed over.
 pub fn drive<B: Board>(board: &mut B, accesses: &[Access<B::M>])
-    ensures kept { keeps.same board.old board.new }
-    ensures done { state (cells board.new) (meter board.new) ≡ after make (state (cells board.old) (meter board.old)) accesses.now }
+    ensures kept { B.keeps.same board.old board.new }
+    ensures done { state (B.cells board.new) (B.meter board.new) ≡ after B.make (state (B.cells board.old) (B.meter board.old)) accesses.now }
 {
     for access in accesses {
         let _ = touch(board, *access);
