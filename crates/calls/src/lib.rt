@@ -45,7 +45,7 @@ impl<'b, B: Board> Screen<'b, B> {
     /// A screen that is empty.
     pub fn new(board: &'b mut B) -> Screen<'b, B>
         ensures lent { (result.board.ghost_name ≡ board.entry.ghost_name) × (result.board.now ≡ board.old) }
-        ensures sound { Sound make M-as-Mark.kind None None result.state result.rule (cells result.board.now) (meter result.board.now) }
+        ensures sound { Sound B.make B.M.Mark.kind None None result.state result.rule (B.cells result.board.now) (B.meter result.board.now) }
     {
         Screen {
             board,
@@ -58,8 +58,8 @@ impl<'b, B: Board> Screen<'b, B> {
     fn load_unopened(&mut self, pattern: &[u8]) -> Result<u16, Fault>
         requires { Unopened self.old.state }
         ensures same { self.new.board.ghost_name ≡ self.old.board.ghost_name }
-        ensures kept { keeps.same self.old.board.now self.new.board.now }
-        ensures goes { (l : Maybe (List ℕ)) (o : Maybe Opened) → Sound make M-as-Mark.kind l o self.old.state self.old.rule (cells self.old.board.now) (meter self.old.board.now) → Goes make M-as-Mark.kind l o self.old.state self.old.rule (cells self.old.board.now) (meter self.old.board.now) (to_load pattern.now) (said_at result) self.new.state self.new.rule (cells self.new.board.now) (meter self.new.board.now) }
+        ensures kept { B.keeps.same self.old.board.now self.new.board.now }
+        ensures goes { (l : Maybe (List ℕ)) (o : Maybe Opened) → Sound B.make B.M.Mark.kind l o self.old.state self.old.rule (B.cells self.old.board.now) (B.meter self.old.board.now) → Goes B.make B.M.Mark.kind l o self.old.state self.old.rule (B.cells self.old.board.now) (B.meter self.old.board.now) (to_load pattern.now) (said_at result) self.new.state self.new.rule (B.cells self.new.board.now) (B.meter self.new.board.now) }
     {
         let rule = read(pattern)?;
         let last = rule.last();
@@ -78,8 +78,8 @@ impl<'b, B: Board> Screen<'b, B> {
     fn begin_ready(&mut self, renter: u8, length: u64) -> Result<u64, Stop>
         requires { self.old.state ≡ State.Ready }
         ensures same { self.new.board.ghost_name ≡ self.old.board.ghost_name }
-        ensures kept { keeps.same self.old.board.now self.new.board.now }
-        ensures goes { (l : Maybe (List ℕ)) (o : Maybe Opened) → Sound make M-as-Mark.kind l o self.old.state self.old.rule (cells self.old.board.now) (meter self.old.board.now) → Goes make M-as-Mark.kind l o self.old.state self.old.rule (cells self.old.board.now) (meter self.old.board.now) (to_begin renter length) (said_number result) self.new.state self.new.rule (cells self.new.board.now) (meter self.new.board.now) }
+        ensures kept { B.keeps.same self.old.board.now self.new.board.now }
+        ensures goes { (l : Maybe (List ℕ)) (o : Maybe Opened) → Sound B.make B.M.Mark.kind l o self.old.state self.old.rule (B.cells self.old.board.now) (B.meter self.old.board.now) → Goes B.make B.M.Mark.kind l o self.old.state self.old.rule (B.cells self.old.board.now) (B.meter self.old.board.now) (to_begin renter length) (said_number result) self.new.state self.new.rule (B.cells self.new.board.now) (B.meter self.new.board.now) }
     {
         if length > u64::from(MOST_BYTES) {
             return Err(Stop::FrameTooLong);
@@ -102,8 +102,8 @@ impl<'b, B: Board> Screen<'b, B> {
     fn feed_open(&mut self, frame: OpenFrame, renter: u8, byte: u8) -> Result<u64, Stop>
         requires { self.old.state ≡ State.Open frame }
         ensures same { self.new.board.ghost_name ≡ self.old.board.ghost_name }
-        ensures kept { keeps.same self.old.board.now self.new.board.now }
-        ensures goes { (l : Maybe (List ℕ)) (o : Maybe Opened) → Sound make M-as-Mark.kind l o self.old.state self.old.rule (cells self.old.board.now) (meter self.old.board.now) → Goes make M-as-Mark.kind l o self.old.state self.old.rule (cells self.old.board.now) (meter self.old.board.now) (to_feed renter byte) (said_number result) self.new.state self.new.rule (cells self.new.board.now) (meter self.new.board.now) }
+        ensures kept { B.keeps.same self.old.board.now self.new.board.now }
+        ensures goes { (l : Maybe (List ℕ)) (o : Maybe Opened) → Sound B.make B.M.Mark.kind l o self.old.state self.old.rule (B.cells self.old.board.now) (B.meter self.old.board.now) → Goes B.make B.M.Mark.kind l o self.old.state self.old.rule (B.cells self.old.board.now) (B.meter self.old.board.now) (to_feed renter byte) (said_number result) self.new.state self.new.rule (B.cells self.new.board.now) (B.meter self.new.board.now) }
     {
         if frame.renter != renter {
             return Err(Stop::OtherRenter);
@@ -126,8 +126,8 @@ impl<'b, B: Board> Screen<'b, B> {
     fn finish_open(&mut self, frame: OpenFrame, renter: u8) -> Result<(B::M, u64), Stop>
         requires { self.old.state ≡ State.Open frame }
         ensures same { self.new.board.ghost_name ≡ self.old.board.ghost_name }
-        ensures kept { keeps.same self.old.board.now self.new.board.now }
-        ensures goes { (l : Maybe (List ℕ)) (o : Maybe Opened) → Sound make B.M.Mark.kind l o self.old.state self.old.rule (cells self.old.board.now) (meter self.old.board.now) → Goes make B.M.Mark.kind l o self.old.state self.old.rule (cells self.old.board.now) (meter self.old.board.now) (to_finish renter) (said_verdict result) self.new.state self.new.rule (cells self.new.board.now) (meter self.new.board.now) }
+        ensures kept { B.keeps.same self.old.board.now self.new.board.now }
+        ensures goes { (l : Maybe (List ℕ)) (o : Maybe Opened) → Sound B.make B.M.Mark.kind l o self.old.state self.old.rule (B.cells self.old.board.now) (B.meter self.old.board.now) → Goes B.make B.M.Mark.kind l o self.old.state self.old.rule (B.cells self.old.board.now) (B.meter self.old.board.now) (to_finish renter) (said_verdict result) self.new.state self.new.rule (B.cells self.new.board.now) (B.meter self.new.board.now) }
     {
         if frame.renter != renter {
             return Err(Stop::OtherRenter);
@@ -144,8 +144,8 @@ impl<'b, B: Board> Screen<'b, B> {
     fn drop_open(&mut self, frame: OpenFrame, renter: u8) -> Result<u64, Stop>
         requires { self.old.state ≡ State.Open frame }
         ensures same { self.new.board.ghost_name ≡ self.old.board.ghost_name }
-        ensures kept { keeps.same self.old.board.now self.new.board.now }
-        ensures goes { (l : Maybe (List ℕ)) (o : Maybe Opened) → Sound make B.M.Mark.kind l o self.old.state self.old.rule (cells self.old.board.now) (meter self.old.board.now) → Goes make B.M.Mark.kind l o self.old.state self.old.rule (cells self.old.board.now) (meter self.old.board.now) (to_drop renter) (said_number result) self.new.state self.new.rule (cells self.new.board.now) (meter self.new.board.now) }
+        ensures kept { B.keeps.same self.old.board.now self.new.board.now }
+        ensures goes { (l : Maybe (List ℕ)) (o : Maybe Opened) → Sound B.make B.M.Mark.kind l o self.old.state self.old.rule (B.cells self.old.board.now) (B.meter self.old.board.now) → Goes B.make B.M.Mark.kind l o self.old.state self.old.rule (B.cells self.old.board.now) (B.meter self.old.board.now) (to_drop renter) (said_number result) self.new.state self.new.rule (B.cells self.new.board.now) (B.meter self.new.board.now) }
     {
         if frame.renter != renter {
             return Err(Stop::OtherRenter);
@@ -158,8 +158,8 @@ impl<'b, B: Board> Screen<'b, B> {
     /// Reads a pattern and makes it the rule; answers the number of its last position.
     pub fn load(&mut self, pattern: &[u8]) -> Result<u16, Fault>
         ensures same { self.new.board.ghost_name ≡ self.old.board.ghost_name }
-        ensures kept { keeps.same self.old.board.now self.new.board.now }
-        ensures goes { (l : Maybe (List ℕ)) (o : Maybe Opened) → Sound make B.M.Mark.kind l o self.old.state self.old.rule (cells self.old.board.now) (meter self.old.board.now) → Goes make B.M.Mark.kind l o self.old.state self.old.rule (cells self.old.board.now) (meter self.old.board.now) (to_load pattern.now) (said_at result) self.new.state self.new.rule (cells self.new.board.now) (meter self.new.board.now) }
+        ensures kept { B.keeps.same self.old.board.now self.new.board.now }
+        ensures goes { (l : Maybe (List ℕ)) (o : Maybe Opened) → Sound B.make B.M.Mark.kind l o self.old.state self.old.rule (B.cells self.old.board.now) (B.meter self.old.board.now) → Goes B.make B.M.Mark.kind l o self.old.state self.old.rule (B.cells self.old.board.now) (B.meter self.old.board.now) (to_load pattern.now) (said_at result) self.new.state self.new.rule (B.cells self.new.board.now) (B.meter self.new.board.now) }
     {
         match self.state {
             State::Empty | State::Ready => self.load_unopened(pattern),
@@ -173,8 +173,8 @@ impl<'b, B: Board> Screen<'b, B> {
     /// Opens a frame of a renter, of so many bytes; answers the touches that it will have made when it is finished.
     pub fn begin(&mut self, renter: u8, length: u64) -> Result<u64, Stop>
         ensures same { self.new.board.ghost_name ≡ self.old.board.ghost_name }
-        ensures kept { keeps.same self.old.board.now self.new.board.now }
-        ensures goes { (l : Maybe (List ℕ)) (o : Maybe Opened) → Sound make B.M.Mark.kind l o self.old.state self.old.rule (cells self.old.board.now) (meter self.old.board.now) → Goes make B.M.Mark.kind l o self.old.state self.old.rule (cells self.old.board.now) (meter self.old.board.now) (to_begin renter length) (said_number result) self.new.state self.new.rule (cells self.new.board.now) (meter self.new.board.now) }
+        ensures kept { B.keeps.same self.old.board.now self.new.board.now }
+        ensures goes { (l : Maybe (List ℕ)) (o : Maybe Opened) → Sound B.make B.M.Mark.kind l o self.old.state self.old.rule (B.cells self.old.board.now) (B.meter self.old.board.now) → Goes B.make B.M.Mark.kind l o self.old.state self.old.rule (B.cells self.old.board.now) (B.meter self.old.board.now) (to_begin renter length) (said_number result) self.new.state self.new.rule (B.cells self.new.board.now) (B.meter self.new.board.now) }
     {
         match self.state {
             State::Empty => Err(Stop::NoRule),
@@ -186,8 +186,8 @@ impl<'b, B: Board> Screen<'b, B> {
     /// Feeds the next byte of a renter's frame; answers the bytes still to come.
     pub fn feed(&mut self, renter: u8, byte: u8) -> Result<u64, Stop>
         ensures same { self.new.board.ghost_name ≡ self.old.board.ghost_name }
-        ensures kept { keeps.same self.old.board.now self.new.board.now }
-        ensures goes { (l : Maybe (List ℕ)) (o : Maybe Opened) → Sound make B.M.Mark.kind l o self.old.state self.old.rule (cells self.old.board.now) (meter self.old.board.now) → Goes make B.M.Mark.kind l o self.old.state self.old.rule (cells self.old.board.now) (meter self.old.board.now) (to_feed renter byte) (said_number result) self.new.state self.new.rule (cells self.new.board.now) (meter self.new.board.now) }
+        ensures kept { B.keeps.same self.old.board.now self.new.board.now }
+        ensures goes { (l : Maybe (List ℕ)) (o : Maybe Opened) → Sound B.make B.M.Mark.kind l o self.old.state self.old.rule (B.cells self.old.board.now) (B.meter self.old.board.now) → Goes B.make B.M.Mark.kind l o self.old.state self.old.rule (B.cells self.old.board.now) (B.meter self.old.board.now) (to_feed renter byte) (said_number result) self.new.state self.new.rule (B.cells self.new.board.now) (B.meter self.new.board.now) }
     {
         match self.state {
             State::Open(frame) => self.feed_open(frame, renter, byte),
@@ -198,8 +198,8 @@ impl<'b, B: Board> Screen<'b, B> {
     /// Ends a renter's frame; answers its verdict, and the touches made for it.
     pub fn finish(&mut self, renter: u8) -> Result<(B::M, u64), Stop>
         ensures same { self.new.board.ghost_name ≡ self.old.board.ghost_name }
-        ensures kept { keeps.same self.old.board.now self.new.board.now }
-        ensures goes { (l : Maybe (List ℕ)) (o : Maybe Opened) → Sound make B.M.Mark.kind l o self.old.state self.old.rule (cells self.old.board.now) (meter self.old.board.now) → Goes make B.M.Mark.kind l o self.old.state self.old.rule (cells self.old.board.now) (meter self.old.board.now) (to_finish renter) (said_verdict result) self.new.state self.new.rule (cells self.new.board.now) (meter self.new.board.now) }
+        ensures kept { B.keeps.same self.old.board.now self.new.board.now }
+        ensures goes { (l : Maybe (List ℕ)) (o : Maybe Opened) → Sound B.make B.M.Mark.kind l o self.old.state self.old.rule (B.cells self.old.board.now) (B.meter self.old.board.now) → Goes B.make B.M.Mark.kind l o self.old.state self.old.rule (B.cells self.old.board.now) (B.meter self.old.board.now) (to_finish renter) (said_verdict result) self.new.state self.new.rule (B.cells self.new.board.now) (B.meter self.new.board.now) }
     {
         match self.state {
             State::Open(frame) => self.finish_open(frame, renter),
@@ -210,8 +210,8 @@ impl<'b, B: Board> Screen<'b, B> {
     /// Ends a renter's frame unread; answers the touches made for it.
     pub fn drop(&mut self, renter: u8) -> Result<u64, Stop>
         ensures same { self.new.board.ghost_name ≡ self.old.board.ghost_name }
-        ensures kept { keeps.same self.old.board.now self.new.board.now }
-        ensures goes { (l : Maybe (List ℕ)) (o : Maybe Opened) → Sound make B.M.Mark.kind l o self.old.state self.old.rule (cells self.old.board.now) (meter self.old.board.now) → Goes make B.M.Mark.kind l o self.old.state self.old.rule (cells self.old.board.now) (meter self.old.board.now) (to_drop renter) (said_number result) self.new.state self.new.rule (cells self.new.board.now) (meter self.new.board.now) }
+        ensures kept { B.keeps.same self.old.board.now self.new.board.now }
+        ensures goes { (l : Maybe (List ℕ)) (o : Maybe Opened) → Sound B.make B.M.Mark.kind l o self.old.state self.old.rule (B.cells self.old.board.now) (B.meter self.old.board.now) → Goes B.make B.M.Mark.kind l o self.old.state self.old.rule (B.cells self.old.board.now) (B.meter self.old.board.now) (to_drop renter) (said_number result) self.new.state self.new.rule (B.cells self.new.board.now) (B.meter self.new.board.now) }
     {
         match self.state {
             State::Open(frame) => self.drop_open(frame, renter),
@@ -221,7 +221,7 @@ impl<'b, B: Board> Screen<'b, B> {
 
     /// What the board's meter shows.
     pub fn meter(&self) -> u64
-        ensures { result ≡ make.shows (length (cells self.now.board.now)) (meter self.now.board.now) }
+        ensures { result ≡ B.make.shows (length (B.cells self.now.board.now)) (B.meter self.now.board.now) }
     {
         self.board.reading()
     }
@@ -229,8 +229,8 @@ impl<'b, B: Board> Screen<'b, B> {
     /// A call as a value. What it does follows from the screen's state and the call together.
     pub fn call(&mut self, call: Call<'_>) -> Result<Answer<B::M>, Refusal>
         ensures same { self.new.board.ghost_name ≡ self.old.board.ghost_name }
-        ensures kept { keeps.same self.old.board.now self.new.board.now }
-        ensures goes { (l : Maybe (List ℕ)) (o : Maybe Opened) → Sound make B.M.Mark.kind l o self.old.state self.old.rule (cells self.old.board.now) (meter self.old.board.now) → Goes make B.M.Mark.kind l o self.old.state self.old.rule (cells self.old.board.now) (meter self.old.board.now) (order call.entry) (said result) self.new.state self.new.rule (cells self.new.board.now) (meter self.new.board.now) }
+        ensures kept { B.keeps.same self.old.board.now self.new.board.now }
+        ensures goes { (l : Maybe (List ℕ)) (o : Maybe Opened) → Sound B.make B.M.Mark.kind l o self.old.state self.old.rule (B.cells self.old.board.now) (B.meter self.old.board.now) → Goes B.make B.M.Mark.kind l o self.old.state self.old.rule (B.cells self.old.board.now) (B.meter self.old.board.now) (order call.entry) (said result) self.new.state self.new.rule (B.cells self.new.board.now) (B.meter self.new.board.now) }
     {
         match (&mut self.state, call) {
             (_, Call::Meter) => Ok(Answer::Number(self.board.reading())),

@@ -16,9 +16,9 @@ pub fn play<B: Board>(
     calls: &[Call<'_>],
     told: &mut [Result<Answer<B::M>, Refusal>],
 ) -> usize
-    ensures kept { keeps.same board.old board.new }
+    ensures kept { B.keeps.same board.old board.new }
     ensures many { result ≡ min (length calls.now) (length told.old) }
-    ensures run { Run make B.M.Mark.kind (cells board.old) (meter board.old) (orders (take result calls.now)) (told_of (take result told.new)) (cells board.new) (meter board.new) }
+    ensures run { Run B.make B.M.Mark.kind (B.cells board.old) (B.meter board.old) (orders (take result calls.now)) (told_of (take result told.new)) (B.cells board.new) (B.meter board.new) }
     ensures rest { drop result told.new ≡ drop result told.old }
 {
     let room = calls.len().min(told.len());
@@ -38,10 +38,10 @@ pub fn play_both<B: Board>(
     right_calls: &[Call<'_>],
     right_told: &mut [Result<Answer<B::M>, Refusal>],
 ) -> (usize, usize)
-    ensures kept_left { keeps.same left.old left.new }
-    ensures kept_right { keeps.same right.old right.new }
+    ensures kept_left { B.keeps.same left.old left.new }
+    ensures kept_right { B.keeps.same right.old right.new }
     ensures many { (result.0 ≡ min (length left_calls.now) (length left_told.old)) × (result.1 ≡ min (length right_calls.now) (length right_told.old)) }
-    ensures law { TwoRuns make B.M.Mark.kind (at_rest (cells left.old) (meter left.old)) (orders (take result.0 left_calls.now)) (told_of (take result.0 left_told.new)) (at_rest (cells left.new) (meter left.new)) (at_rest (cells right.old) (meter right.old)) (orders (take result.1 right_calls.now)) (told_of (take result.1 right_told.new)) (at_rest (cells right.new) (meter right.new)) }
+    ensures law { TwoRuns B.make B.M.Mark.kind (at_rest (B.cells left.old) (B.meter left.old)) (orders (take result.0 left_calls.now)) (told_of (take result.0 left_told.new)) (at_rest (B.cells left.new) (B.meter left.new)) (at_rest (B.cells right.old) (B.meter right.old)) (orders (take result.1 right_calls.now)) (told_of (take result.1 right_told.new)) (at_rest (B.cells right.new) (B.meter right.new)) }
     ensures rest { (drop result.0 left_told.new ≡ drop result.0 left_told.old) × (drop result.1 right_told.new ≡ drop result.1 right_told.old) }
 {
     let played = play(left, left_calls, left_told);

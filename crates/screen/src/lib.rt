@@ -6,7 +6,7 @@ mod movements;
 
 ghost use Rattle.std.specs.Prelude.{◌≡◌, ℕ, ◌+◌, ◌*◌, ◌<◌, ◌≤◌, List, length, MatchResult};
 ghost use Rattle.language.specs.Limits.{most_units};
-ghost use Rattle.method.specs.Cells.{begun, fed as cells-fed, wiped};
+ghost use Rattle.method.specs.Cells.{begun, fed as cells_fed, wiped};
 ghost use Rattle.screen.specs.Schedules.{ADroppedFrameTakesSoManyTouches, AFrameTakesSoManyTouches, beginning, feeding, finishing, wiping};
 ghost use Rattle.screen.specs.Moving.{CarriedOut, Lacks, ReadOut};
 ghost use Rattle.rule.specs.Tables.{RuleOf};
@@ -30,7 +30,7 @@ pub fn a_dropped_frame_takes_so_many_touches()
 
 /// Whether a board has a cell for each position of a rule, and allows so many touches: else stop 18 or 19.
 fn admit<B: Board>(board: &B, rule: &Rule, touches: u64) -> Result<(), Stop>
-    ensures { MatchResult result (λ _. (rule.now.last < most_units + 3) × (rule.now.last < length (cells board.now)) × (touches ≤ make.allowed (length (cells board.now)) (meter board.now))) (λ s. (rule.now.last < most_units + 3 → Lacks (length (cells board.now)) (make.allowed (length (cells board.now)) (meter board.now)) rule.now.last touches (stop_number s))) }
+    ensures { MatchResult result (λ _. (rule.now.last < most_units + 3) × (rule.now.last < length (B.cells board.now)) × (touches ≤ B.make.allowed (length (B.cells board.now)) (B.meter board.now))) (λ s. (rule.now.last < most_units + 3 → Lacks (length (B.cells board.now)) (B.make.allowed (length (B.cells board.now)) (B.meter board.now)) rule.now.last touches (stop_number s))) }
 {
     let last = rule.last();
     if last > MOST_UNITS + 2 || u64::from(last) >= board.size() {
@@ -44,8 +44,8 @@ fn admit<B: Board>(board: &B, rule: &Rule, touches: u64) -> Result<(), Stop>
 
 /// Places the first marks of a frame and scans twice; answers the touches made.
 pub fn begin_cells<B: Board>(board: &mut B, rule: &Rule) -> Result<u64, Stop>
-    ensures kept { keeps.same board.old board.new }
-    ensures done { (pattern : List ℕ) → RuleOf pattern rule.now.last rule.now.words → CarriedOut make (cells board.old) (meter board.old) rule.now.last (beginning (first_of rule.now.words) (second_of rule.now.words) rule.now.last) (begun M-as-Mark.kind (first_of rule.now.words) (second_of rule.now.words) (takes_at rule.now.words) rule.now.last (cells board.old)) (cells board.new) (meter board.new) result }
+    ensures kept { B.keeps.same board.old board.new }
+    ensures done { (pattern : List ℕ) → RuleOf pattern rule.now.last rule.now.words → CarriedOut B.make (B.cells board.old) (B.meter board.old) rule.now.last (beginning (first_of rule.now.words) (second_of rule.now.words) rule.now.last) (begun B.M.Mark.kind (first_of rule.now.words) (second_of rule.now.words) (takes_at rule.now.words) rule.now.last (B.cells board.old)) (B.cells board.new) (B.meter board.new) result }
 {
     let last = rule.last();
     admit(board, rule, 9 * u64::from(last) + 9)?;
@@ -56,8 +56,8 @@ pub fn begin_cells<B: Board>(board: &mut B, rule: &Rule) -> Result<u64, Stop>
 
 /// Carries the marks over a byte, the frame's `fed`-th, and scans twice; answers the touches made.
 pub fn feed_cells<B: Board>(board: &mut B, rule: &Rule, byte: u8, fed: u64) -> Result<u64, Stop>
-    ensures kept { keeps.same board.old board.new }
-    ensures done { (pattern : List ℕ) → RuleOf pattern rule.now.last rule.now.words → CarriedOut make (cells board.old) (meter board.old) rule.now.last (feeding (first_of rule.now.words) (second_of rule.now.words) rule.now.last) (cells-fed M-as-Mark.kind (first_of rule.now.words) (second_of rule.now.words) (takes_at rule.now.words) rule.now.last fed byte (cells board.old)) (cells board.new) (meter board.new) result }
+    ensures kept { B.keeps.same board.old board.new }
+    ensures done { (pattern : List ℕ) → RuleOf pattern rule.now.last rule.now.words → CarriedOut B.make (B.cells board.old) (B.meter board.old) rule.now.last (feeding (first_of rule.now.words) (second_of rule.now.words) rule.now.last) (cells_fed B.M.Mark.kind (first_of rule.now.words) (second_of rule.now.words) (takes_at rule.now.words) rule.now.last fed byte (B.cells board.old)) (B.cells board.new) (B.meter board.new) result }
 {
     admit(board, rule, 10 * u64::from(rule.last()) + 9)?;
     let stepped = step(board, rule, byte, fed)?;
@@ -67,8 +67,8 @@ pub fn feed_cells<B: Board>(board: &mut B, rule: &Rule, byte: u8, fed: u64) -> R
 
 /// Wipes a frame's cells; answers the touches made.
 pub fn wipe_cells<B: Board>(board: &mut B, rule: &Rule) -> Result<u64, Stop>
-    ensures kept { keeps.same board.old board.new }
-    ensures done { (pattern : List ℕ) → RuleOf pattern rule.now.last rule.now.words → CarriedOut make (cells board.old) (meter board.old) rule.now.last (wiping rule.now.last) (wiped M-as-Mark.kind.nothing rule.now.last (cells board.old)) (cells board.new) (meter board.new) result }
+    ensures kept { B.keeps.same board.old board.new }
+    ensures done { (pattern : List ℕ) → RuleOf pattern rule.now.last rule.now.words → CarriedOut B.make (B.cells board.old) (B.meter board.old) rule.now.last (wiping rule.now.last) (wiped B.M.Mark.kind.nothing rule.now.last (B.cells board.old)) (B.cells board.new) (B.meter board.new) result }
 {
     let last = rule.last();
     admit(board, rule, u64::from(last) + 1)?;
@@ -77,8 +77,8 @@ pub fn wipe_cells<B: Board>(board: &mut B, rule: &Rule) -> Result<u64, Stop>
 
 /// Reads the mark at the last position, and wipes a frame's cells; answers the mark and the touches made.
 pub fn finish_cells<B: Board>(board: &mut B, rule: &Rule) -> Result<(B::M, u64), Stop>
-    ensures kept { keeps.same board.old board.new }
-    ensures done { (pattern : List ℕ) → RuleOf pattern rule.now.last rule.now.words → ReadOut make (cells board.old) (meter board.old) rule.now.last (finishing (first_of rule.now.words) (second_of rule.now.words) rule.now.last) (wiped B.M.Mark.kind.nothing rule.now.last (cells board.old)) (cells board.new) (meter board.new) result }
+    ensures kept { B.keeps.same board.old board.new }
+    ensures done { (pattern : List ℕ) → RuleOf pattern rule.now.last rule.now.words → ReadOut B.make (B.cells board.old) (B.meter board.old) rule.now.last (finishing (first_of rule.now.words) (second_of rule.now.words) rule.now.last) (wiped B.M.Mark.kind.nothing rule.now.last (B.cells board.old)) (B.cells board.new) (B.meter board.new) result }
 {
     let last = rule.last();
     admit(board, rule, u64::from(last) + 2)?;

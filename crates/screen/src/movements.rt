@@ -17,8 +17,8 @@ use stops::Stop;
 /// Reads a cell, and counts the touch.
 pub(crate) fn read<B: Board>(board: &mut B, cell: u64, touches: &mut u64) -> Result<B::M, Stop>
     requires { touches.old < 2 ^ 32 }
-    ensures kept { keeps.same board.old board.new }
-    ensures done { Reads make (cells board.old) (meter board.old) cell (cells board.new) (meter board.new) result }
+    ensures kept { B.keeps.same board.old board.new }
+    ensures done { Reads B.make (B.cells board.old) (B.meter board.old) cell (B.cells board.new) (B.meter board.new) result }
     ensures counted { OnOk result (touches.new ≡ touches.old + 1) }
 {
     let mark = board.read(cell)?;
@@ -29,8 +29,8 @@ pub(crate) fn read<B: Board>(board: &mut B, cell: u64, touches: &mut u64) -> Res
 /// Writes a cell, and counts the touch.
 fn write<B: Board>(board: &mut B, cell: u64, mark: B::M, touches: &mut u64) -> Result<(), Stop>
     requires { touches.old < 2 ^ 32 }
-    ensures kept { keeps.same board.old board.new }
-    ensures done { Writes make (cells board.old) (meter board.old) cell mark (cells board.new) (meter board.new) result }
+    ensures kept { B.keeps.same board.old board.new }
+    ensures done { Writes B.make (B.cells board.old) (B.meter board.old) cell mark (B.cells board.new) (B.meter board.new) result }
     ensures counted { OnOk result (touches.new ≡ touches.old + 1) }
 {
     board.write(cell, mark)?;
@@ -47,9 +47,9 @@ fn first_mark<M: Mark>(first: M, cell: u64) -> M
 
 /// Writes `first` to cell 0 and nothing to cells 1 to `last`, in that order.
 fn fill<B: Board>(board: &mut B, last: u16, first: B::M) -> Result<u64, Stop>
-    ensures kept { keeps.same board.old board.new }
-    ensures done { IfOk result (Moves make (cells board.old) (meter board.old) (placing last) (placed first B.M.Mark.kind.nothing last (cells board.old)) (cells board.new) (meter board.new)) }
-    ensures enough { Enough make (length (cells board.old)) (meter board.old) (placing last) → is_ok result ≡ true }
+    ensures kept { B.keeps.same board.old board.new }
+    ensures done { IfOk result (Moves B.make (B.cells board.old) (B.meter board.old) (placing last) (placed first B.M.Mark.kind.nothing last (B.cells board.old)) (B.cells board.new) (B.meter board.new)) }
+    ensures enough { Enough B.make (length (B.cells board.old)) (B.meter board.old) (placing last) → is_ok result ≡ true }
 {
     let mut touches = 0;
     for cell in 0..u64::from(last) + 1 {
@@ -60,18 +60,18 @@ fn fill<B: Board>(board: &mut B, last: u16, first: B::M) -> Result<u64, Stop>
 
 /// Places the first marks of a frame: seed(0) in cell 0, nothing in cells 1 to `last`.
 pub(crate) fn place<B: Board>(board: &mut B, last: u16) -> Result<u64, Stop>
-    ensures kept { keeps.same board.old board.new }
-    ensures done { IfOk result (Moves make (cells board.old) (meter board.old) (placing last) (placed (M-as-Mark.kind.seed 0) M-as-Mark.kind.nothing last (cells board.old)) (cells board.new) (meter board.new)) }
-    ensures enough { Enough make (length (cells board.old)) (meter board.old) (placing last) → is_ok result ≡ true }
+    ensures kept { B.keeps.same board.old board.new }
+    ensures done { IfOk result (Moves B.make (B.cells board.old) (B.meter board.old) (placing last) (placed (B.M.Mark.kind.seed 0) B.M.Mark.kind.nothing last (B.cells board.old)) (B.cells board.new) (B.meter board.new)) }
+    ensures enough { Enough B.make (length (B.cells board.old)) (B.meter board.old) (placing last) → is_ok result ≡ true }
 {
     fill(board, last, B::M::seed(0))
 }
 
 /// Wipes cells 0 to `last`: writes nothing to each.
 pub(crate) fn wipe<B: Board>(board: &mut B, last: u16) -> Result<u64, Stop>
-    ensures kept { keeps.same board.old board.new }
-    ensures done { IfOk result (Moves make (cells board.old) (meter board.old) (wiping last) (wiped M-as-Mark.kind.nothing last (cells board.old)) (cells board.new) (meter board.new)) }
-    ensures enough { Enough make (length (cells board.old)) (meter board.old) (wiping last) → is_ok result ≡ true }
+    ensures kept { B.keeps.same board.old board.new }
+    ensures done { IfOk result (Moves B.make (B.cells board.old) (B.meter board.old) (wiping last) (wiped B.M.Mark.kind.nothing last (B.cells board.old)) (B.cells board.new) (B.meter board.new)) }
+    ensures enough { Enough B.make (length (B.cells board.old)) (B.meter board.old) (wiping last) → is_ok result ≡ true }
 {
     fill(board, last, B::M::nothing())
 }
@@ -91,8 +91,8 @@ fn read_source<B: Board>(
     touches: &mut u64,
 ) -> Result<B::M, Stop>
     requires { touches.old < 2 ^ 32 }
-    ensures kept { keeps.same board.old board.new }
-    ensures done { Reads make (cells board.old) (meter board.old) (source predecessor position) (cells board.new) (meter board.new) result }
+    ensures kept { B.keeps.same board.old board.new }
+    ensures done { Reads B.make (B.cells board.old) (B.meter board.old) (source predecessor position) (B.cells board.new) (B.meter board.new) result }
     ensures counted { OnOk result (touches.new ≡ touches.old + 1) }
 {
     read(board, source(predecessor, position), touches)
@@ -101,9 +101,9 @@ fn read_source<B: Board>(
 /// Joins to each cell from 0 to the last, in that order, its predecessors' marks.
 fn scan<B: Board>(board: &mut B, rule: &Rule) -> Result<u64, Stop>
     requires { rule.now.last < most_units + 3 }
-    ensures kept { keeps.same board.old board.new }
-    ensures done { IfOk result (Moves make (cells board.old) (meter board.old) (scanning (first_of rule.now.words) (second_of rule.now.words) rule.now.last) (scanned M-as-Mark.kind.join M-as-Mark.kind.nothing (first_of rule.now.words) (second_of rule.now.words) rule.now.last (cells board.old)) (cells board.new) (meter board.new)) }
-    ensures enough { Enough make (length (cells board.old)) (meter board.old) (scanning (first_of rule.now.words) (second_of rule.now.words) rule.now.last) → is_ok result ≡ true }
+    ensures kept { B.keeps.same board.old board.new }
+    ensures done { IfOk result (Moves B.make (B.cells board.old) (B.meter board.old) (scanning (first_of rule.now.words) (second_of rule.now.words) rule.now.last) (scanned B.M.Mark.kind.join B.M.Mark.kind.nothing (first_of rule.now.words) (second_of rule.now.words) rule.now.last (B.cells board.old)) (B.cells board.new) (B.meter board.new)) }
+    ensures enough { Enough B.make (length (B.cells board.old)) (B.meter board.old) (scanning (first_of rule.now.words) (second_of rule.now.words) rule.now.last) → is_ok result ≡ true }
 {
     let mut touches = 0;
     for j in 0..rule.last() + 1 {
@@ -127,9 +127,9 @@ const SCANS: u64 = 2;
 /// Scans the cells twice, one scan after the other.
 pub(crate) fn settle<B: Board>(board: &mut B, rule: &Rule) -> Result<u64, Stop>
     requires { rule.now.last < most_units + 3 }
-    ensures kept { keeps.same board.old board.new }
-    ensures done { IfOk result (Moves make (cells board.old) (meter board.old) (settling (first_of rule.now.words) (second_of rule.now.words) rule.now.last) (settled M-as-Mark.kind.join M-as-Mark.kind.nothing (first_of rule.now.words) (second_of rule.now.words) rule.now.last (cells board.old)) (cells board.new) (meter board.new)) }
-    ensures enough { Enough make (length (cells board.old)) (meter board.old) (settling (first_of rule.now.words) (second_of rule.now.words) rule.now.last) → is_ok result ≡ true }
+    ensures kept { B.keeps.same board.old board.new }
+    ensures done { IfOk result (Moves B.make (B.cells board.old) (B.meter board.old) (settling (first_of rule.now.words) (second_of rule.now.words) rule.now.last) (settled B.M.Mark.kind.join B.M.Mark.kind.nothing (first_of rule.now.words) (second_of rule.now.words) rule.now.last (B.cells board.old)) (B.cells board.new) (B.meter board.new)) }
+    ensures enough { Enough B.make (length (B.cells board.old)) (B.meter board.old) (settling (first_of rule.now.words) (second_of rule.now.words) rule.now.last) → is_ok result ≡ true }
 {
     let mut touches = 0;
     for i in 0..SCANS {
@@ -155,9 +155,9 @@ fn fresh<M: Mark>(fed: u64) -> M
 /// Carries the marks over a byte, from the last cell down to cell 1, and puts seed(bytes fed so far) into cell 0.
 pub(crate) fn step<B: Board>(board: &mut B, rule: &Rule, byte: u8, fed: u64) -> Result<u64, Stop>
     requires { rule.now.last < most_units + 3 }
-    ensures kept { keeps.same board.old board.new }
-    ensures done { IfOk result (Moves make (cells board.old) (meter board.old) (stepping rule.now.last) (stepped M-as-Mark.kind.nothing (takes_at rule.now.words byte) (M-as-Mark.kind.seed fed) rule.now.last (cells board.old)) (cells board.new) (meter board.new)) }
-    ensures enough { Enough make (length (cells board.old)) (meter board.old) (stepping rule.now.last) → is_ok result ≡ true }
+    ensures kept { B.keeps.same board.old board.new }
+    ensures done { IfOk result (Moves B.make (B.cells board.old) (B.meter board.old) (stepping rule.now.last) (stepped B.M.Mark.kind.nothing (takes_at rule.now.words byte) (B.M.Mark.kind.seed fed) rule.now.last (B.cells board.old)) (B.cells board.new) (B.meter board.new)) }
+    ensures enough { Enough B.make (length (B.cells board.old)) (B.meter board.old) (stepping rule.now.last) → is_ok result ≡ true }
 {
     let mut touches = 0;
     for j in (0..rule.last()).rev() {

@@ -1,6 +1,5 @@
 -- What placing the first marks, and the byte step, do to each cell.
 use Rattle.std.proofs.Common.{◌≡◌, ℕ, zero, suc, ◌+◌, ◌<◌, ◌≤◌, List, length, get_or, set, sym, refl, ap, ◌∙◌, subst, arith, length-set, get_or-set_other, get_or-set_same}
-use Rattle.language.specs.Ways.{over}
 use Rattle.method.specs.Cells.{filled, shift_over}
 use native.Mathlib.Decide.{dec_le}
 

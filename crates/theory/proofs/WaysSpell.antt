@@ -1,5 +1,5 @@
 -- Each way through a tree spells a word of it.
-use Rattle.std.proofs.Common.{◌≡◌, ℕ, suc, ◌+◌, ◌<◌, ◌≤◌, T, List, [], ◌∷◌, ◌++◌, sym, refl, ap, ◌∙◌, subst, inl, inr, append_assoc, append-nil, arith}
+use Rattle.std.proofs.Common.{◌≡◌, ℕ, suc, ◌+◌, ◌<◌, ◌≤◌, List, [], ◌∷◌, ◌++◌, sym, refl, ap, ◌∙◌, subst, inl, inr, append_assoc, append-nil, arith}
 use Rattle.language.specs.Links.{BranchStart, Link, LinksOf, Loops, Skips, branch_end, last_position, loop, onward, size, skip}
 use Rattle.language.specs.Patterns.{Sort, Tree, alternatives, atom, branch, empty, group, letter, once, only, piece, repeated, ◌or◌, ◌then◌}
 use Rattle.language.specs.Ways.{Leads, ReadsAt, along, over, stay}

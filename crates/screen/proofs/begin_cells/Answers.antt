@@ -18,7 +18,7 @@ returns-in_err-admit g c =
     (record {
       kept = b.keeps.still _;
       done = λ pattern rule.
-          left_out b.make (b.cells board) (b.meter board) n (beginning (first_of words) (second_of words) n) (begun g.M.Mark.kind (first_of words) (second_of words) (takes_at words) n (b.cells board)) _ _ _ p.2 (let l = length_beginning (first_of words) (second_of words) n in let e = c.last-last.ensures in let f = c.from.ensures in omega arith)
+          left_out b.make (b.cells board) (b.meter board) n (beginning (first_of words) (second_of words) n) (begun g.B.M.Mark.kind (first_of words) (second_of words) (takes_at words) n (b.cells board)) _ _ _ p.2 (let l = length_beginning (first_of words) (second_of words) n in let e = c.last-last.ensures in let f = c.from.ensures in omega arith)
           (c.in_err-admit.ensures (few rule));
     })
 
@@ -56,7 +56,7 @@ returns-in_err-scanned g c =
       done = λ pattern rule.
           never
           (c.in_err-scanned.ensures.enough
-          (begin_enough b.make g.M.Mark.kind (b.cells board) (b.meter board) n words _ _ e c.in_ok-placed.ensures.done
+          (begin_enough b.make g.B.M.Mark.kind (b.cells board) (b.meter board) n words _ _ e c.in_ok-placed.ensures.done
           (enough_begin b.make (length (b.cells board)) (b.meter board) n words pattern rule adm.1 (let f = c.from.ensures in let h = adm.2 in omega arith))));
     })
 
@@ -84,6 +84,6 @@ returns g c =
       kept = b.keeps.on _ _ _ c.in_ok-placed.ensures.kept c.in_ok-scanned.ensures.kept;
       done = λ pattern rule. (
         enough_begin b.make (length (b.cells board)) (b.meter board) n words pattern rule adm.1 (let f = c.from.ensures in let h = adm.2 in omega arith),
-        begin_all b.make g.M.Mark.kind (b.cells board) (b.meter board) n words _ _ e c.in_ok-placed.ensures.done _ c.in_ok-scanned.ensures.done,
+        begin_all b.make g.B.M.Mark.kind (b.cells board) (b.meter board) n words _ _ e c.in_ok-placed.ensures.done _ c.in_ok-scanned.ensures.done,
       );
     }

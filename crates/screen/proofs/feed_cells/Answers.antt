@@ -18,7 +18,7 @@ returns-in_err-admit g c =
     (record {
       kept = b.keeps.still _;
       done = λ pattern rule.
-          left_out b.make (b.cells board) (b.meter board) n (feeding (first_of words) (second_of words) n) (fed g.M.Mark.kind (first_of words) (second_of words) (takes_at words) n c.args.fed c.args.byte (b.cells board)) _ _ _ p.2 (let l = length_feeding (first_of words) (second_of words) n in let e = c.last.ensures in let f = c.from.ensures in omega arith)
+          left_out b.make (b.cells board) (b.meter board) n (feeding (first_of words) (second_of words) n) (fed g.B.M.Mark.kind (first_of words) (second_of words) (takes_at words) n c.args.fed c.args.byte (b.cells board)) _ _ _ p.2 (let l = length_feeding (first_of words) (second_of words) n in let e = c.last.ensures in let f = c.from.ensures in omega arith)
           (c.in_err-admit.ensures (few rule));
     })
 
@@ -56,7 +56,7 @@ returns-in_err-scanned g c =
       done = λ pattern rule.
           never
           (c.in_err-scanned.ensures.enough
-          (feed_enough b.make g.M.Mark.kind (b.cells board) (b.meter board) n words c.args.byte c.args.fed _ c.in_ok-stepped.ensures.done
+          (feed_enough b.make g.B.M.Mark.kind (b.cells board) (b.meter board) n words c.args.byte c.args.fed _ c.in_ok-stepped.ensures.done
           (enough_feed b.make (length (b.cells board)) (b.meter board) n words pattern rule adm.1 (let f = c.from.ensures in let h = adm.2 in omega arith))));
     })
 
@@ -84,6 +84,6 @@ returns g c =
       kept = b.keeps.on _ _ _ c.in_ok-stepped.ensures.kept c.in_ok-scanned.ensures.kept;
       done = λ pattern rule. (
         enough_feed b.make (length (b.cells board)) (b.meter board) n words pattern rule adm.1 (let f = c.from.ensures in let h = adm.2 in omega arith),
-        feed_all b.make g.M.Mark.kind (b.cells board) (b.meter board) n words c.args.byte c.args.fed _ c.in_ok-stepped.ensures.done _ c.in_ok-scanned.ensures.done,
+        feed_all b.make g.B.M.Mark.kind (b.cells board) (b.meter board) n words c.args.byte c.args.fed _ c.in_ok-stepped.ensures.done _ c.in_ok-scanned.ensures.done,
       );
     }

@@ -18,7 +18,7 @@ returns-in_err-admit g c =
     (record {
       kept = b.keeps.still _;
       done = λ pattern rule.
-          left_out b.make (b.cells board) (b.meter board) n (finishing (first_of words) (second_of words) n) (wiped g.M.Mark.kind.nothing n (b.cells board)) _ _ _ p.2
+          left_out b.make (b.cells board) (b.meter board) n (finishing (first_of words) (second_of words) n) (wiped g.B.M.Mark.kind.nothing n (b.cells board)) _ _ _ p.2
           (let l = finish_length words n in let e = c.last-last.ensures in let f = c.from.ensures in omega arith) (c.in_err-admit.ensures (few rule));
     })
 
@@ -55,7 +55,7 @@ returns-in_err-wiped g c =
           never
           (c.in_err-wiped.ensures.enough
           (wipe_first b.make e
-          (finish_enough b.make g.M.Mark.kind (b.cells board) (b.meter board) n words _ _ _ (c.from-2.ensures ∙ e) c.in_ok-mark.ensures.done c.in_ok-mark.ensures.counted
+          (finish_enough b.make g.B.M.Mark.kind (b.cells board) (b.meter board) n words _ _ _ (c.from-2.ensures ∙ e) c.in_ok-mark.ensures.done c.in_ok-mark.ensures.counted
           (enough_finish b.make (length (b.cells board)) (b.meter board) n words pattern rule adm.1 (let f = c.from.ensures in let h = adm.2 in omega arith)))));
     })
 
@@ -82,8 +82,8 @@ returns g c =
     record {
       kept = b.keeps.on _ _ _ c.in_ok-mark.ensures.kept c.in_ok-wiped.ensures.kept;
       done = λ pattern rule. (
-        finish_mark b.make g.M.Mark.kind (b.cells board) (b.meter board) n words _ _ _ i r c.in_ok-mark.ensures.counted,
+        finish_mark b.make g.B.M.Mark.kind (b.cells board) (b.meter board) n words _ _ _ i r c.in_ok-mark.ensures.counted,
         enough_finish b.make (length (b.cells board)) (b.meter board) n words pattern rule adm.1 (let f = c.from.ensures in let h = adm.2 in omega arith),
-        finish_all b.make g.M.Mark.kind (b.cells board) (b.meter board) n words _ _ _ i r c.in_ok-mark.ensures.counted _ _ e c.in_ok-wiped.ensures.done,
+        finish_all b.make g.B.M.Mark.kind (b.cells board) (b.meter board) n words _ _ _ i r c.in_ok-mark.ensures.counted _ _ e c.in_ok-wiped.ensures.done,
       );
     }

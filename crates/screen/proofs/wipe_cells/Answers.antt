@@ -18,7 +18,7 @@ returns-in_err-admit g c =
     (record {
       kept = b.keeps.still _;
       done = λ pattern rule.
-          left_out b.make (b.cells board) (b.meter board) n (wiping n) (wiped g.M.Mark.kind.nothing n (b.cells board)) _ _ _ p.2 (let l = length_writes (suc n) 0 in let e = c.last-last.ensures in let f = c.from.ensures in omega arith)
+          left_out b.make (b.cells board) (b.meter board) n (wiping n) (wiped g.B.M.Mark.kind.nothing n (b.cells board)) _ _ _ p.2 (let l = length_writes (suc n) 0 in let e = c.last-last.ensures in let f = c.from.ensures in omega arith)
           (c.in_err-admit.ensures (few rule));
     })
 
@@ -28,7 +28,7 @@ returns g c =
     let board = c.args.board.now in
     let n = c.args.rule.now.last in
     let words = c.args.rule.now.words in
-    let kind = g.M.Mark.kind in
+    let kind = g.B.M.Mark.kind in
     let adm = c.in_ok-admit.ensures in
     let e = c.last-last.ensures in
     record {

@@ -7,5 +7,5 @@ pub returns-in-Empty : goal.returns-in-Empty
 returns-in-Empty g c = record {
   same = search rules;
   kept = g.B.Board.keeps.still _;
-  goes = λ l o s. drop_closed g.B.Board.make g.M.Mark.kind l o _ _ _ _ s (closed _ c.in-Empty.is) _;
+  goes = λ l o s. drop_closed g.B.Board.make g.B.M.Mark.kind l o _ _ _ _ s (closed _ c.in-Empty.is) _;
 }

@@ -6,5 +6,5 @@ pub returns-in-Open : goal.returns-in-Open
 returns-in-Open g c = record {
   same = search rules;
   kept = g.B.Board.keeps.still _;
-  goes = λ l o s. load_open g.B.Board.make g.M.Mark.kind l o _ _ _ _ s _ c.in-Open.is _;
+  goes = λ l o s. load_open g.B.Board.make g.B.M.Mark.kind l o _ _ _ _ s _ c.in-Open.is _;
 }

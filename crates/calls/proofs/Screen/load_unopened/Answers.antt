@@ -10,19 +10,19 @@ returns-in_err-rule g c =
     (record {
       same = search rules;
       kept = g.B.Board.keeps.still _;
-      goes = λ l o s. load_fault g.B.Board.make g.M.Mark.kind l o _ _ _ _ c.requires s _ _ _ c.in_err-rule.ensures.answers;
+      goes = λ l o s. load_fault g.B.Board.make g.B.M.Mark.kind l o _ _ _ _ c.requires s _ _ _ c.in_err-rule.ensures.answers;
     })
 
 pub returns-then-from-size : goal.returns-then-from-size
 returns-then-from-size g c = record {
   same = search rules;
   kept = g.B.Board.keeps.still _;
-  goes = λ l o s. load_wide g.B.Board.make g.M.Mark.kind l o _ _ _ _ c.requires s _ _ refl c.in_ok-rule.ensures.answers (omega arith);
+  goes = λ l o s. load_wide g.B.Board.make g.B.M.Mark.kind l o _ _ _ _ c.requires s _ _ refl c.in_ok-rule.ensures.answers (omega arith);
 }
 
 pub returns : goal.returns
 returns g c = record {
   same = search rules;
   kept = g.B.Board.keeps.still _;
-  goes = λ l o s. load_done g.B.Board.make g.M.Mark.kind l o _ _ _ _ c.requires s _ _ _ c.last-last.ensures c.in_ok-rule.ensures.answers (omega arith);
+  goes = λ l o s. load_done g.B.Board.make g.B.M.Mark.kind l o _ _ _ _ c.requires s _ _ _ c.last-last.ensures c.in_ok-rule.ensures.answers (omega arith);
 }

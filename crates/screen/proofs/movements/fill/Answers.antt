@@ -7,7 +7,7 @@ use Rattle.std.proofs.lemmas.Result.{err_from_is_err_and}
 pub loop-cell-init : goal.loop-cell-init
 loop-cell-init g c = (
   g.B.Board.keeps.still _,
-  fill_none g.B.Board.make (first_mark c.args.first g.M.Mark.kind.nothing) c.args.last (g.B.Board.cells c.args.board.now) (g.B.Board.meter c.args.board.now),
+  fill_none g.B.Board.make (first_mark c.args.first g.B.M.Mark.kind.nothing) c.args.last (g.B.Board.cells c.args.board.now) (g.B.Board.meter c.args.board.now),
 )
 
 pub write-requires : goal.write-requires

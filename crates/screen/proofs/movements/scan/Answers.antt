@@ -9,7 +9,7 @@ use Rattle.std.proofs.Common.{refl, ap, ◌∙◌, arith}
 pub loop-j-init : goal.loop-j-init
 loop-j-init g c =
     let b = g.B.Board in
-    let k = g.M.Mark.kind in
+    let k = g.B.M.Mark.kind in
     let words = c.args.rule.now.words in (
       b.keeps.still _,
       scan_none b.make k.join k.nothing (first_of words) (second_of words) c.args.rule.now.last (b.cells c.args.board.now) (b.meter c.args.board.now),
@@ -50,7 +50,7 @@ loop-j-preserved g c =
     let one = reads_at make (ap (λ z. source z j) c.predecessors-first.ensures.0) c.in_ok-before.ensures.done in
     let two = reads_at make (ap (λ z. source z j) c.predecessors-first.ensures.1) c.in_ok-other.ensures.done in
     let put = writes_at make _ c.from-in-loop-j.ensures _ c.in_ok-write.ensures.done in
-    let mark = c.join-in-loop-j.ensures ∙ ap (λ z. g.M.Mark.kind.join z c.in_ok-other.other) c.join.ensures in (
+    let mark = c.join-in-loop-j.ensures ∙ ap (λ z. g.B.M.Mark.kind.join z c.in_ok-other.other) c.join.ensures in (
       on _ _ _ c.loop-j.invariant.0 (on _ _ _ c.in_ok-own.ensures.kept (on _ _ _ c.in_ok-before.ensures.kept (on _ _ _ c.in_ok-other.ensures.kept c.in_ok-write.ensures.kept))),
       scan_more make _ _ _ _ _ _ _ start _ own c.in_ok-own.ensures.counted _ one c.in_ok-before.ensures.counted _ two c.in_ok-other.ensures.counted _ _ _ put mark c.in_ok-write.ensures.counted refl,
     )

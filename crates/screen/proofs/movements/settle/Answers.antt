@@ -8,7 +8,7 @@ use Rattle.std.proofs.lemmas.Result.{err_from_is_err_and}
 pub loop-i-init : goal.loop-i-init
 loop-i-init g c =
     let b = g.B.Board in
-    let k = g.M.Mark.kind in (
+    let k = g.B.M.Mark.kind in (
       b.keeps.still _,
       settle_none b.make k.join k.nothing (first_of c.args.rule.now.words) (second_of c.args.rule.now.words) c.args.rule.now.last (b.cells c.args.board.now) (b.meter c.args.board.now),
     )

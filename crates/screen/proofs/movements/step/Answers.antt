@@ -10,7 +10,7 @@ pub loop-j-init : goal.loop-j-init
 loop-j-init g c =
     let b = g.B.Board in (
       b.keeps.still _,
-      step_none b.make g.M.Mark.kind.nothing (takes_at c.args.rule.now.words c.args.byte) c.args.rule.now.last (b.cells c.args.board.now) (b.meter c.args.board.now) _ (omega arith),
+      step_none b.make g.B.M.Mark.kind.nothing (takes_at c.args.rule.now.words c.args.byte) c.args.rule.now.last (b.cells c.args.board.now) (b.meter c.args.board.now) _ (omega arith),
     )
 
 pub read-requires : goal.read-requires
@@ -33,7 +33,7 @@ loop-j-preserved g c =
     let got = reads_at make c.from.ensures c.in_ok-mark.ensures.done in
     let cell : c.from-in-loop-j.result + 1 ≡ suc i = let e = c.from-in-loop-j.ensures in omega arith in
     let put = writes_at make _ cell _ c.in_ok-write.ensures.done in
-    let mark = c.across.ensures ∙ ap (λ z. cond z c.in_ok-mark.mark g.M.Mark.kind.nothing) c.takes.ensures in (
+    let mark = c.across.ensures ∙ ap (λ z. cond z c.in_ok-mark.mark g.B.M.Mark.kind.nothing) c.takes.ensures in (
       on _ _ _ c.loop-j.invariant.0 (on _ _ _ c.in_ok-mark.ensures.kept c.in_ok-write.ensures.kept),
       step_more make _ _ _ _ _ f _ got c.in_ok-mark.ensures.counted _ _ put mark c.in_ok-write.ensures.counted,
     )
