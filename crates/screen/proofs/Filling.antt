@@ -1,6 +1,6 @@
 -- Cells written one after another.
-use Rattle.std.proofs.Common.{◌≡◌, ℕ, zero, suc, ◌+◌, ◌<◌, ◌≤◌, List, length, set, Ok, sym, refl, ap, ◌∙◌, subst, add-one, arith}
-use Rattle.board.specs.Boards.{Make, Refused, Touch, Writes}
+use Rattle.std.proofs.Common.{◌≡◌, ℕ, zero, suc, ◌+◌, ◌<◌, ◌≤◌, List, length, set, Ok, sym, refl, ap, ◌∙◌, subst, arith}
+use Rattle.board.specs.Boards.{Make, Refused, Writes}
 use Rattle.method.specs.Cells.{filled}
 use Rattle.screen.proofs.Lengths.{length_writes}
 use Rattle.screen.proofs.Underway.{Underway, all_done, never_refused, none_yet, write_on}

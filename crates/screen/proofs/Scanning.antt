@@ -1,10 +1,10 @@
 -- Cells joined with their predecessors one after another.
-use Rattle.std.proofs.Common.{◌≡◌, ℕ, zero, suc, ◌+◌, ◌*◌, ◌<◌, ◌≤◌, List, [], ◌∷◌, length, get_or, set, Ok, Option, sym, refl, ap, ◌∙◌, subst, ap₂, arith}
-use Rattle.board.specs.Boards.{Make, Reads, Refused, Touch, Writes, read, write}
+use Rattle.std.proofs.Common.{◌≡◌, ℕ, zero, suc, ◌+◌, ◌*◌, ◌<◌, ◌≤◌, List, ◌∷◌, length, get_or, set, Ok, Option, sym, refl, ap, ◌∙◌, subst, ap₂, arith}
+use Rattle.board.specs.Boards.{Make, Reads, Touch, Writes, read, write}
 use Rattle.method.specs.Cells.{joined_at, scan_from, source}
 use Rattle.screen.proofs.Lengths.{length_scans}
-use Rattle.screen.proofs.Underway.{Underway, all_done, never_refused, none_yet, read_on, write_on}
-use Rattle.screen.specs.Moving.{Enough, Moves}
+use Rattle.screen.proofs.Underway.{Underway, all_done, none_yet, read_on, write_on}
+use Rattle.screen.specs.Moving.{Moves}
 use Rattle.screen.specs.Schedules.{scans}
 use Rattle.std.proofs.lemmas.List.{get_or_read}
 

@@ -1,11 +1,11 @@
 -- Cells carried over a byte, from the last one down.
-use Rattle.std.proofs.Common.{◌≡◌, ℕ, zero, suc, ◌+◌, ◌-◌, ◌*◌, ◌<◌, ◌≤◌, Bool, cond, List, [], ◌∷◌, ◌++◌, length, get_or, set, Ok, sym, refl, ap, ◌∙◌, subst, arith, length-append}
-use Rattle.board.specs.Boards.{Make, Reads, Refused, Touch, Writes, read, write}
+use Rattle.std.proofs.Common.{◌≡◌, ℕ, suc, ◌+◌, ◌*◌, ◌≤◌, Bool, List, [], ◌∷◌, length, get_or, set, Ok, sym, refl, ap, ◌∙◌, subst, arith}
+use Rattle.board.specs.Boards.{Make, Reads, Touch, Writes, read, write}
 use Rattle.method.specs.Cells.{across, shift, stepped}
-use Rattle.screen.proofs.Lengths.{length_shifts, length_stepping}
-use Rattle.screen.proofs.Underway.{Underway, all_done, never_refused, none_yet, read_on, write_on}
-use Rattle.screen.specs.Moving.{Enough, Moves}
-use Rattle.screen.specs.Schedules.{shifts, stepping}
+use Rattle.screen.proofs.Lengths.{length_stepping}
+use Rattle.screen.proofs.Underway.{Underway, all_done, none_yet, read_on, write_on}
+use Rattle.screen.specs.Moving.{Moves}
+use Rattle.screen.specs.Schedules.{stepping}
 use Rattle.std.proofs.lemmas.List.{get_or_read}
 
 module _ {M X : Type 0} (make : Make X) (nothing : M) (takes : ℕ → Bool) (n : ℕ) (cells₀ : List M) (start : X) where

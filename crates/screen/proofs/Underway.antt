@@ -1,7 +1,7 @@
 -- A schedule under way on a board: what is still to come of it leads where all of it leads from the start.
-use Rattle.std.proofs.Common.{◌≡◌, ℕ, suc, ◌+◌, ◌<◌, ◌≤◌, List, [], ◌∷◌, length, get_or, set, Ok, sym, refl, ap, ◌∙◌, subst, arith, length-set}
+use Rattle.std.proofs.Common.{◌≡◌, ℕ, ◌+◌, ◌≤◌, List, [], ◌∷◌, length, Ok, sym, refl, ap, ◌∙◌, subst, arith, length-set}
 use Rattle.board.specs.Boards.{Make, Reads, Refused, Touch, Writes, cell_of, moved, no_allowance, no_cell, read, write}
-use Rattle.screen.specs.Moving.{Below, Enough, Moves}
+use Rattle.screen.specs.Moving.{Enough, Moves}
 
 pub record Underway {M X : Type 0} (make : Make X) (size : ℕ) (start : X) (whole : List Touch) (cells : List M) (meter : X) (touches : ℕ) (rest : List Touch) : Type 0 where
   pub sized : length cells ≡ size

@@ -1,4 +1,4 @@
-use Rattle.std.proofs.Common.{ℕ, ◌≤◌, refl, arith}
+use Rattle.std.proofs.Common.{refl, arith}
 use Rattle.method.specs.Cells.{first_mark}
 use Rattle.screen.proofs.Filling.{fill_all, fill_count, fill_more, fill_none, fill_stops}
 use Rattle.screen.proofs.movements.fill.Goals as goal

@@ -1,5 +1,4 @@
 use Rattle.std.proofs.Common.{◌≡◌, suc, ◌+◌, ◌-◌, cond, refl, ap, ◌∙◌, arith}
-use Rattle.method.specs.Cells.{across}
 use Rattle.rule.specs.Words.{takes_at}
 use Rattle.screen.proofs.Stepping.{at_next, last_write, step_all, step_count, step_more, step_none, step_read, step_start}
 use Rattle.screen.proofs.Underway.{never_refused, reads_at, refused_at, writes_at}
