@@ -20,7 +20,7 @@ use Rattle.mark.specs.Marks as mark
 use Rattle.mark.specs.Tail.{tail, tail_seed}
 use Rattle.mark.specs.YesNo.{yes_no}
 use Rattle.screen.proofs.Lengths.{frame_length}
-use Rattle.method.specs.Cells.{begun, cells_after, fed, fed_all, filled, joined_at, scan_from, scanned, settled, shift}
+use Rattle.method.specs.Cells.{begun, cells_after, fed, fed_all, filled, joined_at, scan_from, scanned, settled, shift_over}
 use Rattle.screen.specs.Schedules.{frame_touches, whole_frame}
 use Rattle.rule.proofs.Whole.{framed, ruled_at}
 use Rattle.rule.specs.Growing.{Sofar}
@@ -197,7 +197,7 @@ module _ {M : Type 0} (kind : mark.Kind M) {pattern words : List ℕ} (rule : Ru
     blank = replicate (suc end) kind.nothing
 
     cells : List M
-    unfolding begun cells_after fed fed_all filled joined_at scan_from shift tail_seed
+    unfolding begun cells_after fed fed_all filled joined_at scan_from shift_over tail_seed
     cells = cells_after kind (first_of words) (second_of words) (takes_at words) end frame blank
 
     held : Bytes frame → meaning.Holds kind t frame cells

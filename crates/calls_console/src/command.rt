@@ -133,17 +133,17 @@ fn meter<'a>(rest: &'a [u8]) -> Command<'a>
 fn asked<'a>(parts: Parts<'a>) -> Command<'a>
     ensures { Reads parts.entry.word.now parts.entry.rest.now result }
 {
-    if parts.word == b"load" {
+    if parts.word == b"load".as_slice() {
         Command::Load(parts.rest)
-    } else if parts.word == b"begin" {
+    } else if parts.word == b"begin".as_slice() {
         begin(parts.rest)
-    } else if parts.word == b"feed" {
+    } else if parts.word == b"feed".as_slice() {
         feed(parts.rest)
-    } else if parts.word == b"finish" {
+    } else if parts.word == b"finish".as_slice() {
         finish(parts.rest)
-    } else if parts.word == b"drop" {
+    } else if parts.word == b"drop".as_slice() {
         drop(parts.rest)
-    } else if parts.word == b"meter" {
+    } else if parts.word == b"meter".as_slice() {
         meter(parts.rest)
     } else {
         Command::Unknown
