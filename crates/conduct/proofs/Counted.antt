@@ -14,7 +14,7 @@ use Rattle.screen.proofs.Lengths.{length_beginning, length_feeding, length_write
 use Rattle.screen.specs.Schedules.{finishing}
 use Rattle.rule.specs.Tables.{RuleOf}
 use Rattle.rule.specs.Words.{first_of, second_of}
-use Rattle.std.specs.List.{AllByRecursion as All}
+use Rattle.std.specs.List.{AllByRecursion}
 use Rattle.theory.proofs.Tables.{table_tells}
 
 -- a begun frame of k bytes, neither finished nor dropped, under a rule that ends at n
@@ -102,7 +102,7 @@ module _ {M X : Type 0} where
       → (BegunNow e f × (counted o ≡ length e.touches)) ⊎ ((s : StillOpen e h f) × (counted o ≡ length e.touches + counted s.was_open))
   counted_split {e} {h} {f} o = go o.since o.parts o.no_other o.bytes
     where
-      go : (since : List (Event M X)) → e ∷ h ≡ since ++ (o.begin ∷ o.before) → All (λ z. ¬ Turns z) since → f.bytes ≡ bytes_fed since
+      go : (since : List (Event M X)) → e ∷ h ≡ since ++ (o.begin ∷ o.before) → AllByRecursion (λ z. ¬ Turns z) since → f.bytes ≡ bytes_fed since
           → (BegunNow e f × (touches_in since + length o.begin.touches ≡ length e.touches))
           ⊎ ((s : StillOpen e h f) × (touches_in since + length o.begin.touches ≡ length e.touches + counted s.was_open))
       go [] q a b =

@@ -4,7 +4,7 @@ use Rattle.conduct.specs.Calls.{AcceptedBy, Frame, frame, if_accepted, stopped, 
 use Rattle.conduct.specs.Histories.{Event, LastLoad, Loads, IsOpenFrame, Turns, Used, bytes_fed, fed_by}
 use Rattle.conduct.specs.Rules.{end_of}
 use Rattle.language.specs.Patterns.{Accepted}
-use Rattle.std.specs.List.{AllByRecursion as All}
+use Rattle.std.specs.List.{AllByRecursion}
 
 -- a stopped call is not accepted
 pub not_stopped : {M A : Type 0} {n : ℕ} → AcceptedBy {M = M} (stopped n) → A
@@ -41,7 +41,7 @@ module _ {M X : Type 0} where
   pub load_split : {e : Event M X} {h : List (Event M X)} {p : List ℕ} → LastLoad (e ∷ h) p → (AcceptedBy e.said × (e.call ≡ to_load p)) ⊎ ((¬ Loads e) × LastLoad h p)
   load_split {e} {h} {p} x = go x.since x.parts x.no_other
     where
-      go : (since : List (Event M X)) → e ∷ h ≡ since ++ (x.load ∷ x.before) → All (λ z. ¬ Loads z) since → (AcceptedBy e.said × (e.call ≡ to_load p)) ⊎ ((¬ Loads e) × LastLoad h p)
+      go : (since : List (Event M X)) → e ∷ h ≡ since ++ (x.load ∷ x.before) → AllByRecursion (λ z. ¬ Loads z) since → (AcceptedBy e.said × (e.call ≡ to_load p)) ⊎ ((¬ Loads e) × LastLoad h p)
       go [] q a =
           let s : x.load ≡ e = cc in
           inl (subst (λ z. AcceptedBy z.said) s x.accepted, ap (λ z. z.call) (sym s) ∙ x.asked)
@@ -83,7 +83,7 @@ module _ {M X : Type 0} where
   pub open_split : {e : Event M X} {h : List (Event M X)} {f : Frame} → IsOpenFrame (e ∷ h) f → BegunNow e f ⊎ StillOpen e h f
   open_split {e} {h} {f} x = go x.since x.parts x.no_other x.bytes
     where
-      go : (since : List (Event M X)) → e ∷ h ≡ since ++ (x.begin ∷ x.before) → All (λ z. ¬ Turns z) since → f.bytes ≡ bytes_fed since → BegunNow e f ⊎ StillOpen e h f
+      go : (since : List (Event M X)) → e ∷ h ≡ since ++ (x.begin ∷ x.before) → AllByRecursion (λ z. ¬ Turns z) since → f.bytes ≡ bytes_fed since → BegunNow e f ⊎ StillOpen e h f
       go [] q a b =
           let s : x.begin ≡ e = cc in
           inl (record { accepted = subst (λ z. AcceptedBy z.said) s x.accepted; asked = ap (λ z. z.call) (sym s) ∙ x.asked; empty = b })

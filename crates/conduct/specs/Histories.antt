@@ -5,7 +5,7 @@ use Rattle.conduct.specs.Calls.{AcceptedBy, Frame, Order, Said, if_accepted, num
 use Rattle.conduct.specs.Rules.{Due, Makes, end_of}
 use Rattle.language.specs.Patterns.{Accepted}
 use Rattle.mark.specs.Marks.{Kind}
-use Rattle.std.specs.List.{AllByRecursion as All}
+use Rattle.std.specs.List.{AllByRecursion}
 use Rattle.theory.specs.Meaning.{Holds}
 
 -- one call of a run: what was asked, what it was told, the touches that it made, and the board's cells and meter after it
@@ -60,7 +60,7 @@ module _ {M X : Type 0} where
     pub parts : h ≡ since ++ (load ∷ before)
     pub accepted : AcceptedBy load.said
     pub asked : load.call ≡ to_load p
-    pub no_other : All (λ e. ¬ Loads e) since
+    pub no_other : AllByRecursion (λ e. ¬ Loads e) since
 
   -- The frame is open: the last accepted begin is its, with no accepted finish or drop after it, and its bytes are those of the
   -- accepted feeds since.
@@ -71,7 +71,7 @@ module _ {M X : Type 0} where
     pub parts : h ≡ since ++ (begin ∷ before)
     pub accepted : AcceptedBy begin.said
     pub asked : begin.call ≡ to_begin f.renter f.length
-    pub no_other : All (λ e. ¬ Turns e) since
+    pub no_other : AllByRecursion (λ e. ¬ Turns e) since
     pub bytes : f.bytes ≡ bytes_fed since
 
   -- some frame of the history used cell j: its rule, that of the last load before it began, ends at j or behind it

@@ -5,11 +5,11 @@ use Rattle.language.specs.Patterns.{Tree, alternatives}
 use Rattle.language.specs.Ways.{Chain, Takes, Way}
 use Rattle.mark.specs.Joins.{JoinOf}
 use Rattle.mark.specs.Marks.{Kind}
-use Rattle.std.specs.List.{AllByRecursion as All}
+use Rattle.std.specs.List.{AllByRecursion}
 
 -- a frame is bytes
 abbrev pub Bytes : List ℕ → Type 0
-Bytes w = All (λ c. c < 256) w
+Bytes w = AllByRecursion (λ c. c < 256) w
 
 -- The tables tell the pattern t: where it ends, which positions link to each one, and which bytes each takes.
 pub record Tells (t : Tree alternatives) (n : ℕ) (first second : ℕ → Option ℕ) (takes : ℕ → ℕ → Bool) : Type 0 where
