@@ -1,16 +1,13 @@
 -- A check that computes whether a worked case holds, with the evidence, and the list of cases under it.
-use Rattle.std.proofs.Common.{◌≡◌, ℕ, zero, suc, ◌+◌, ◌-◌, ◌*◌, ◌/◌, ◌%◌, ◌<◌, ◌≤◌, Bool, true, false, List, [], ◌∷◌, length, get_or, replicate, Some, None, Option, sym, refl, ap, ◌∙◌, subst, ap₂, arith, length-append}
+use Rattle.std.proofs.Common.{◌≡◌, ℕ, suc, ◌+◌, ◌-◌, ◌*◌, ◌<◌, ◌≤◌, false, List, [], ◌∷◌, length, get_or, replicate, Some, None, Option, sym, refl, ap, ◌∙◌, subst, ap₂, arith, length-append}
 use Rattle.board.specs.Boards.{Touch, moved}
 use Rattle.board.specs.Makes.{Words, tracing, word_of as traced-word}
-use Rattle.calls_cases.specs.Cases.{BeginsOnTrace, Case, CaseHolds, Every, FillsTheTrace, Finishes, Full, HasMarks, HasVerdict, OneScanMisses, WorkedCasesHold, begins_on_trace, fills_the_trace, finished, marks, new_trace, one_scan_misses, stop, table, tail_verdict, worked_cases, yes_no_verdict}
+use Rattle.calls_cases.specs.Cases.{BeginsOnTrace, Case, CaseHolds, Every, FillsTheTrace, Finishes, Full, HasMarks, HasVerdict, OneScanMisses, WorkedCasesHold, begins_on_trace, fills_the_trace, finished, marks, new_trace, one_scan_misses, tail_verdict, worked_cases, yes_no_verdict}
+use Rattle.cases.proofs.Checked.{Found, both, evidence, found, framed_proper, from_dec, is_found, missing, table?, via}
 use Rattle.conduct.specs.Calls.{Said, number, stopped, stopped_at, verdict}
 use Rattle.conduct.specs.Rules.{begin_accepted, begin_without_allowance, finish_accepted}
 use Rattle.language.proofs.Decided.{Outcome, accepts, decide, faults}
-use Rattle.language.proofs.Exact.{one_reading}
-use Rattle.language.proofs.Parsed.{group_proper}
-use Rattle.language.proofs.Trees.{accepted_reads, reads_accepted}
 use Rattle.language.proofs.Two.{two_predecessors}
-use Rattle.language.specs.Faults.{Before, Faulty, Reads}
 use Rattle.language.specs.LeftToRight.{Proper}
 use Rattle.language.specs.Links.{last_position}
 use Rattle.language.specs.Patterns.{Tree, alternatives}
@@ -22,13 +19,11 @@ use Rattle.mark.specs.YesNo.{yes_no}
 use Rattle.screen.proofs.Lengths.{frame_length}
 use Rattle.method.specs.Cells.{begun, cells_after, fed, fed_all, filled, joined_at, scan_from, scanned, settled, shift_over}
 use Rattle.screen.specs.Schedules.{frame_touches, whole_frame}
-use Rattle.rule.proofs.Whole.{framed, ruled_at}
-use Rattle.rule.specs.Growing.{Sofar}
-use Rattle.rule.specs.Tables.{RuleOf, WordAt, WordsOf}
-use Rattle.rule.specs.Words.{Holds, Says, absent, byte_of, first_of, kind_number, kind_of, second_of, takes_at}
+use Rattle.rule.proofs.Whole.{framed}
+use Rattle.rule.specs.Tables.{RuleOf}
+use Rattle.rule.specs.Words.{absent, byte_of, first_of, kind_number, kind_of, second_of, takes_at}
 use Rattle.rule.specs.declared.word.Kind.TheVariants.{End}
 use Rattle.rule.specs.declared.word.Kind.{Kind}
-use Rattle.syntax.specs.declared.PatternUnit.TheVariants.{Close}
 use Rattle.syntax.specs.declared.PatternUnit.{PatternUnit}
 use Rattle.theory.proofs.Frames.{cells_hold}
 use Rattle.theory.proofs.Joins.{one_join}
@@ -41,92 +36,13 @@ use Rattle.theory.specs.Verdicts.{Verdict}
 use lib.ListN.{length-replicate}
 use native.Mathlib.Decide.{dec_le, dec_lt, ℕ_discrete}
 
--- evidence that was found, or not
-data Found (P : Type 0) : Type 0 where
-  found : P → Found P
-  missing : Found P
-
-is_found : {P : Type 0} → Found P → Bool
-is_found (found p) = true
-is_found missing = false
-
-evidence : {P : Type 0} (f : Found P) → is_found f ≡ true → P
-unfolding is_found
-evidence (found p) e = p
-evidence missing e = let z : ◌≡◌ {A = ℕ} 0 1 = cc in let y : ⊥ = omega arith in absurd y
-
-from_dec : {P : Type 0} → Dec P → Found P
-from_dec (yes p) = found p
-from_dec (no n) = missing
-
 from_not : {P : Type 0} → Dec P → Found (¬ P)
 from_not (yes p) = missing
 from_not (no n) = found n
 
-both : {P Q : Type 0} → Found P → Found Q → Found (P × Q)
-both (found p) (found q) = found (p, q)
-both (found p) missing = missing
-both missing q = missing
-
-via : {P Q : Type 0} → (P → Q) → Found P → Found Q
-via f (found p) = found (f p)
-via f missing = missing
-
 given : {P Q : Type 0} → (P → Found Q) → Found P → Found Q
 given f (found p) = f p
 given f missing = missing
-
--- whether ten bits hold a position, and a word says this
-holds? : (field : ℕ) (o : Option ℕ) → Found (Holds field o)
-unfolding from_dec both ℕ_discrete dec_lt
-holds? field None = from_dec (ℕ_discrete field 1023)
-holds? field (Some i) = both (from_dec (ℕ_discrete field i)) (from_dec (dec_lt i 1023))
-
-says? : (word : ℕ) (kind : Kind) (byte : ℕ) (first second : Option ℕ) → Found (Says word kind byte first second)
-unfolding from_dec both via holds? ℕ_discrete
-says? word kind byte first second =
-    via (λ x. record { kind_bits = x.0.0; byte_bits = x.0.1; first_bits = x.1.0; second_bits = x.1.1 })
-    (both (both (from_dec (ℕ_discrete (word / 0x1000_0000) (kind_number kind))) (from_dec (ℕ_discrete ((word / 0x10_0000) % 0x100) byte)))
-    (both (holds? ((word / 0x400) % 0x400) first) (holds? (word % 0x400) second)))
-
--- whether P holds below n
-each? : (P : ℕ → Type 0) → ((j : ℕ) → Found (P j)) → (n : ℕ) → Found ((j : ℕ) → j < n → P j)
-unfolding both via
-each? P f zero = found (λ j h. let z : ⊥ = omega arith in absurd z)
-each? P f (suc n) =
-    via (λ x j h. elim (dec_lt j n) [ yes l ↦ x.0 j l | no l ↦ (let e : n ≡ j = omega arith in subst P e x.1) ])
-    (both (each? P f n) (f n))
-
-module _ (us : List PatternUnit) (pr : Proper 0 false us) where
-  word-at? : (j : ℕ) (kind : Kind) (byte word : ℕ) → Found (WordAt (Sofar us) j kind byte word)
-  unfolding via says? two_predecessors
-  word-at? j kind byte word =
-      let (a, b, p) = two_predecessors us pr j in
-      via (λ s. record { first = a; second = b; says = s; predecessors = p }) (says? word kind byte a b)
-
-  words-of? : (words : List ℕ) → Found (WordsOf (Sofar us) us (length us) words)
-  unfolding both each? via word-at?
-  words-of? words =
-      via (λ x. record { last = refl; units = x.0; end = x.1 })
-      (both (each? (λ j. WordAt (Sofar us) j (kind_of (get_or us j Close)) (byte_of (get_or us j Close)) (get_or words j 0)) (λ j. word-at? j (kind_of (get_or us j Close)) (byte_of (get_or us j Close)) (get_or words j 0)) (length us))
-      (word-at? (length us) End 0 (get_or words (length us) 0)))
-
-framed_proper : {bytes : List ℕ} {us : List PatternUnit} {x : Before} → Reads bytes us [] x → Proper 0 false (framed us)
-framed_proper r = let a = reads_accepted r in subst (λ z. Proper 0 false (framed z)) (one_reading (accepted_reads a).1 r) (group_proper a.tree)
-
--- whether a pattern that is read has these words, or this fault
-table? : {bytes : List ℕ} (words : List ℕ) → Outcome bytes → Found (RuleOf bytes (length words - 1) words)
-unfolding both from_dec via words-of? ℕ_discrete
-table? {bytes} words (accepts us x r) =
-    via (λ y. ruled_at bytes us x (length words - 1) words r (subst (λ n. WordsOf (Sofar (framed us)) (framed us) n words) y.0 y.1))
-    (both (from_dec (ℕ_discrete (length (framed us)) (length words - 1))) (words-of? (framed us) (framed_proper r) words))
-table? words (faults n p f) = missing
-
-stop? : {bytes : List ℕ} (n p : ℕ) → Outcome bytes → Found (Faulty bytes n p)
-unfolding both from_dec via ℕ_discrete
-stop? n p (accepts us x r) = missing
-stop? {bytes} n p (faults m q f) =
-    via (λ y. subst (λ z. Faulty bytes z p) y.0 (subst (λ z. Faulty bytes m z) y.1 f)) (both (from_dec (ℕ_discrete m n)) (from_dec (ℕ_discrete q p)))
 
 -- A pattern that is read has a table. Its words are made here, and held to the definitions as those of a case are.
 record Ruled (pattern : List ℕ) : Type 0 where
@@ -170,12 +86,12 @@ module _ {M : Type 0} (kind : mark.Kind M) where
   unfolding from_not via ℕ_discrete
   other? x y = via (λ n e. n (ap kind.code e)) (from_not (ℕ_discrete (kind.code x) (kind.code y)))
 
-  all-same? : (xs ys : List M) → Found (xs ≡ ys)
+  all_same? : (xs ys : List M) → Found (xs ≡ ys)
   unfolding both same? via
-  all-same? [] [] = found refl
-  all-same? [] (y ∷ ys) = missing
-  all-same? (x ∷ xs) [] = missing
-  all-same? (x ∷ xs) (y ∷ ys) = via (λ e. ap₂ ◌∷◌ e.0 e.1) (both (same? x y) (all-same? xs ys))
+  all_same? [] [] = found refl
+  all_same? [] (y ∷ ys) = missing
+  all_same? (x ∷ xs) [] = missing
+  all_same? (x ∷ xs) (y ∷ ys) = via (λ e. ap₂ ◌∷◌ e.0 e.1) (both (same? x y) (all_same? xs ys))
 
 -- What a pattern's table makes of the cells.
 module _ {M : Type 0} (kind : mark.Kind M) {pattern words : List ℕ} (rule : RuleOf pattern (length words - 1) words) where
@@ -205,10 +121,10 @@ module _ {M : Type 0} (kind : mark.Kind M) {pattern words : List ℕ} (rule : Ru
     held b = cells_hold M kind t end (first_of words) (second_of words) (takes_at words) tells blank (omega (arith, length-replicate (suc end) kind.nothing)) frame b
 
     marks? : (ms : List M) → Found (HasMarks kind pattern frame ms)
-    unfolding all-same? both bytes? cells from_dec via ℕ_discrete
+    unfolding all_same? both bytes? cells from_dec via ℕ_discrete
     marks? ms =
         via (λ x. (rule.accepted, x.0.0 ∙ ap suc tells.ends, subst (meaning.Holds kind t frame) x.0.1 (held x.1)))
-        (both (both (from_dec (ℕ_discrete (length ms) (suc end))) (all-same? kind cells ms)) (bytes? frame))
+        (both (both (from_dec (ℕ_discrete (length ms) (suc end))) (all_same? kind cells ms)) (bytes? frame))
 
     judged? : (m : M) → Found (Verdict kind t frame m)
     unfolding both bytes? cells same? via
@@ -293,9 +209,7 @@ module _ {pattern words : List ℕ} (rule : RuleOf pattern (length words - 1) wo
   fills? = via (λ e. (rule, λ size. full_after size free touched (so_many ∙ e))) (from_dec (ℕ_discrete (frame_touches (length words - 1) bytes) free))
 
 case? : (c : Case) → Found (CaseHolds c)
-unfolding begins? decide fills? finishes? given marks? misses? ruled? stop? table? verdict?
-case? (table pattern words) = table? words (decide pattern)
-case? (stop pattern n place) = stop? n place (decide pattern)
+unfolding begins? decide fills? finishes? given marks? misses? ruled? table? verdict?
 case? (marks pattern frame ms) = given (λ r. marks? yes_no r.rule frame ms) (ruled? (decide pattern))
 case? (yes_no_verdict pattern frame m) = given (λ r. verdict? yes_no r.rule frame m) (ruled? (decide pattern))
 case? (tail_verdict pattern frame m) = given (λ r. verdict? tail r.rule frame m) (ruled? (decide pattern))

@@ -1,10 +1,9 @@
--- The worked cases, in one list.
+-- The worked cases of marks, verdicts and calls, in one list.
 use Rattle.std.specs.Prelude.{◌≡◌, ℕ, suc, ◌-◌, List, [], ◌∷◌, length, replicate, Some, None, codes, slice_index_or, slice_set}
 use Rattle.board.specs.Boards.{moved}
 use Rattle.board.specs.Makes.{Words, counting, tracing}
 use Rattle.conduct.specs.Calls.{Said, frame, number, stopped, to_begin, to_finish, verdict}
 use Rattle.conduct.specs.Rules.{Due}
-use Rattle.language.specs.Faults.{Faulty}
 use Rattle.language.specs.Links.{last_position}
 use Rattle.language.specs.Patterns.{Accepted}
 use Rattle.mark.specs.Joins.{JoinOf}
@@ -23,9 +22,6 @@ use Rattle.theory.specs.Meaning.{Behind, Holds}
 use Rattle.theory.specs.Verdicts.{Verdict}
 
 pub data Case : Type 0 where
-  -- a pattern with the words of its table, or with the number and the place of its fault
-  table : (pattern words : List ℕ) → Case
-  stop : (pattern : List ℕ) (number place : ℕ) → Case
   -- a pattern and a frame with the yes/no marks in all cells after it, or with the verdict of a kind on it
   marks : (pattern frame : List ℕ) (cells : List YesNo) → Case
   yes_no_verdict : (pattern frame : List ℕ) (mark : YesNo) → Case
@@ -79,8 +75,6 @@ FillsTheTrace pattern words bytes free =
     ((size : ℕ) → Full (moved (tracing.step size) (new_trace free) (whole_frame (first_of words) (second_of words) (length words - 1) bytes)) free)
 
 abbrev pub CaseHolds : Case → Type 0
-CaseHolds (table pattern words) = RuleOf pattern (length words - 1) words
-CaseHolds (stop pattern n place) = Faulty pattern n place
 CaseHolds (marks pattern frame cells) = HasMarks yes_no pattern frame cells
 CaseHolds (yes_no_verdict pattern frame mark) = HasVerdict yes_no pattern frame mark
 CaseHolds (tail_verdict pattern frame mark) = HasVerdict tail pattern frame mark
@@ -96,16 +90,6 @@ yes_in n (k ∷ ks) = slice_set (yes_in n ks) k Yes
 
 abbrev pub worked_cases : List Case
 worked_cases =
-    table (codes "a|b") (0x200FFFFF ∷ 0x061003FF ∷ 0x300FFFFF ∷ 0x062003FF ∷ 0x40000BFF ∷ 0xF00013FF ∷ []) ∷
-    table (codes "a*") (0x200FFFFF ∷ 0x06100002 ∷ 0x500007FF ∷ 0x40000BFF ∷ 0xF0000FFF ∷ []) ∷
-    table (codes "(|a)") (0x200FFFFF ∷ 0x200003FF ∷ 0x300007FF ∷ 0x061007FF ∷ 0x40000BFF ∷ 0x400013FF ∷ 0xF00017FF ∷ []) ∷
-    table (codes "") (0x200FFFFF ∷ 0x400003FF ∷ 0xF00007FF ∷ []) ∷
-    stop (codes "a**") 6 2 ∷
-    stop (codes "(*a)") 5 1 ∷
-    stop (codes "ab)") 3 2 ∷
-    stop (codes "((a)") 4 0 ∷
-    stop (codes "\\q") 2 0 ∷
-    stop (codes "\\x4") 2 0 ∷
     marks (codes "(A)*B|C") (codes "") (yes_in 10 (0 ∷ 1 ∷ 2 ∷ 4 ∷ 5 ∷ 7 ∷ [])) ∷
     marks (codes "(A)*B|C") (codes "A") (yes_in 10 (1 ∷ 2 ∷ 3 ∷ 4 ∷ 5 ∷ [])) ∷
     marks (codes "(A)*B|C") (codes "AB") (yes_in 10 (6 ∷ 8 ∷ 9 ∷ [])) ∷

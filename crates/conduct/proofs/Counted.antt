@@ -28,7 +28,6 @@ one_fed : (n k : ℕ) → 10 * n + 9 + open_touches n k ≡ open_touches n (suc 
 one_fed n k = let z = mul-suc n k in omega arith
 
 finish_length : (words : List ℕ) (n : ℕ) → length (finishing (first_of words) (second_of words) n) ≡ n + 2
-unfolding finishing
 finish_length words n = let l = length_writes (suc n) 0 in omega arith
 
 -- how many touches an accepted call makes under a rule that ends at n

@@ -26,15 +26,12 @@ module _ (f s g t : ℕ → Option ℕ) (n : ℕ) (firsts : (k : ℕ) → k ≤ 
   same_settling = ap (λ z. z ++ z) (same_scans (suc n) 0 (omega arith))
 
   same_beginning : beginning f s n ≡ beginning g t n
-  unfolding beginning
   same_beginning = ap (λ z. placing n ++ z) same_settling
 
   same_feeding : feeding f s n ≡ feeding g t n
-  unfolding feeding
   same_feeding = ap (λ z. stepping n ++ z) same_settling
 
   same_finishing : finishing f s n ≡ finishing g t n
-  unfolding finishing
   same_finishing = refl
 
 module _ {p : List ℕ} {n : ℕ} {words others : List ℕ} where

@@ -40,11 +40,9 @@ module _ {first second : ℕ → Option ℕ} {n size : ℕ} (inside : Inside fir
   below_settling = let s = below_scans (suc n) 0 (omega arith) in below_append size (scanning first second n) (scanning first second n) s s
 
   pub below_beginning : Below size (beginning first second n)
-  unfolding beginning
   below_beginning = below_append size (placing n) (settling first second n) (below_writes size (suc n) 0 (omega arith)) below_settling
 
   pub below_feeding : Below size (feeding first second n)
-  unfolding feeding
   below_feeding =
       below_append size (stepping n) (settling first second n) (below_append size (shifts n) (write 0 ∷ []) (below_shifts size n h) (omega arith, tt)) below_settling
 
@@ -52,7 +50,6 @@ module _ {first second : ℕ → Option ℕ} {n size : ℕ} (inside : Inside fir
   below_wiping = below_writes size (suc n) 0 (omega arith)
 
   pub below_finishing : Below size (finishing first second n)
-  unfolding finishing
   below_finishing = (h, below_wiping)
 
 -- the predecessors of a table are positions of its rule

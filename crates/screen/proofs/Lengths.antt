@@ -23,7 +23,6 @@ module _ (first second : ℕ → Option ℕ) where
   length_settling n = let h = length_scans (suc n) 0 in let a = length-append (scanning first second n) (scanning first second n) in omega arith
 
   pub length_beginning : (n : ℕ) → length (beginning first second n) ≡ 9 * n + 9
-  unfolding beginning
   length_beginning n =
       let h = length_settling n in
       let w = length_writes (suc n) 0 in
@@ -31,7 +30,6 @@ module _ (first second : ℕ → Option ℕ) where
       omega arith
 
   pub length_feeding : (n : ℕ) → length (feeding first second n) ≡ 10 * n + 9
-  unfolding feeding
   length_feeding n =
       let h = length_settling n in
       let s = length_stepping n in
@@ -58,7 +56,6 @@ module _ (first second : ℕ → Option ℕ) (n m : ℕ) (last : List Touch) whe
       omega arith
 
 pub frame_length : AFrameTakesSoManyTouches
-unfolding finishing
 frame_length first second n m = let w = length_writes (suc n) 0 in let e = ended_length first second n m (finishing first second n) in omega arith
 
 pub dropped_length : ADroppedFrameTakesSoManyTouches

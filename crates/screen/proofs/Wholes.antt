@@ -46,11 +46,9 @@ module _ {X : Type 0} (make : Make X) (size : ℕ) (meter : X) (n : ℕ) (words 
   enough_wipe h = record { below = below_wiping (table_inside rule) fits; allowed = let l = length_writes (suc n) 0 in omega arith }
 
   pub enough_finish : n + 2 ≤ make.allowed size meter → Enough make size meter (finishing (first_of words) (second_of words) n)
-  unfolding finishing
   enough_finish h = record { below = below_finishing (table_inside rule) fits; allowed = let l = length_writes (suc n) 0 in omega arith }
 
 pub finish_length : (words : List ℕ) (n : ℕ) → length (finishing (first_of words) (second_of words) n) ≡ n + 2
-unfolding finishing
 finish_length words n = let l = length_writes (suc n) 0 in omega arith
 
 pub wipe_first : {X : Type 0} (make : Make X) {size : ℕ} {meter : X} {last n : ℕ} → last ≡ n → Enough make size meter (wiping n) → Enough make size meter (wiping last)
@@ -59,18 +57,15 @@ wipe_first make {size} {meter} e h = subst (λ z. Enough make size meter (wiping
 -- a board that has enough for a finish does not refuse its read
 pub finish_first : {M X : Type 0} (make : Make X) (cells : List M) (meter : X) (n : ℕ) (words : List ℕ) (i : ℕ) {number : ℕ} → i ≡ n
     → Refused (length cells) (make.allowed (length cells) meter) i number → Enough make (length cells) meter (finishing (first_of words) (second_of words) n) → ⊥
-unfolding finishing
 finish_first make cells meter n words i e (no_cell h) f = let b = f.below.0 in omega arith
 finish_first make cells meter n words i e (no_allowance h z) f = let b = f.allowed in omega arith
 
 -- what is enough for a call is enough for its first movement
 module _ {X : Type 0} (make : Make X) (size : ℕ) (meter : X) (n : ℕ) (words : List ℕ) where
   pub begin_first : (last : ℕ) → last ≡ n → Enough make size meter (beginning (first_of words) (second_of words) n) → Enough make size meter (placing last)
-  unfolding beginning
   begin_first last e h = subst (λ z. Enough make size meter (placing z)) (sym e) (enough_first make (placing n) (settling (first_of words) (second_of words) n) h)
 
   pub feed_first : Enough make size meter (feeding (first_of words) (second_of words) n) → Enough make size meter (stepping n)
-  unfolding feeding
   feed_first h = enough_first make (stepping n) (settling (first_of words) (second_of words) n) h
 
 module _ {M X : Type 0} (make : Make X) (kind : Kind M) (cells : List M) (meter : X) (n : ℕ) (words : List ℕ) where
@@ -80,14 +75,13 @@ module _ {M X : Type 0} (make : Make X) (kind : Kind M) (cells : List M) (meter 
     placed_now = subst (λ z. Moves make cells meter (placing z) (placed (kind.seed 0) kind.nothing z cells) cells₁ meter₁ t) e m
 
     pub begin_enough : Enough make (length cells) meter (beginning (first_of words) (second_of words) n) → Enough make (length cells₁) meter₁ (settling (first_of words) (second_of words) n)
-    unfolding beginning
     begin_enough h =
         enough_second make (placing n) (settling (first_of words) (second_of words) n) t placed_now ((leave_others M).placing (kind.seed 0) kind.nothing n cells).long h
 
     pub begin_all : {cells₂ : List M} {meter₂ : X} (u : ℕ)
         → Moves make cells₁ meter₁ (settling (first_of words) (second_of words) n) (settled kind.join kind.nothing (first_of words) (second_of words) n cells₁) cells₂ meter₂ u
         → Moves make cells meter (beginning (first_of words) (second_of words) n) (begun kind (first_of words) (second_of words) (takes_at words) n cells) cells₂ meter₂ (t + u)
-    unfolding beginning begun
+    unfolding begun
     begin_all u k =
         chained make (placing n) (settling (first_of words) (second_of words) n) t placed_now ((leave_others M).placing (kind.seed 0) kind.nothing n cells).long
         (λ cs. settled kind.join kind.nothing (first_of words) (second_of words) n cs) u k
@@ -105,13 +99,12 @@ module _ {M X : Type 0} (make : Make X) (kind : Kind M) (cells : List M) (meter 
     long_over = (stepped_over_others kind.nothing (across kind.nothing (takes_at words byte)) (kind.seed i) n cells).long
 
     pub feed_enough : Enough make (length cells) meter (feeding (first_of words) (second_of words) n) → Enough make (length cells₁) meter₁ (settling (first_of words) (second_of words) n)
-    unfolding feeding
     feed_enough h = enough_second make (stepping n) (settling (first_of words) (second_of words) n) t m long h
 
     pub feed_all : {cells₂ : List M} {meter₂ : X} (u : ℕ)
         → Moves make cells₁ meter₁ (settling (first_of words) (second_of words) n) (settled kind.join kind.nothing (first_of words) (second_of words) n cells₁) cells₂ meter₂ u
         → Moves make cells meter (feeding (first_of words) (second_of words) n) (fed kind (first_of words) (second_of words) (takes_at words) n i byte cells) cells₂ meter₂ (t + u)
-    unfolding fed feeding
+    unfolding fed
     feed_all u k =
         chained make (stepping n) (settling (first_of words) (second_of words) n) t stepped_now long_over (λ cs. settled kind.join kind.nothing (first_of words) (second_of words) n cs) u k
 
@@ -126,12 +119,10 @@ module _ {M X : Type 0} (make : Make X) (kind : Kind M) (cells : List M) (meter 
     finish_mark = subst (λ z. mark ≡ get_or cells z mark) e r.1
 
     pub finish_enough : Enough make (length cells) meter (finishing (first_of words) (second_of words) n) → Enough make (length cells₁) meter₁ (wiping n)
-    unfolding finishing
     finish_enough h = enough_second make (read n ∷ []) (wiping n) t read_now refl h
 
     pub finish_all : {cells₂ : List M} {meter₂ : X} (last u : ℕ) → last ≡ n → Moves make cells₁ meter₁ (wiping last) (wiped kind.nothing last cells₁) cells₂ meter₂ u
         → Moves make cells meter (finishing (first_of words) (second_of words) n) (wiped kind.nothing n cells) cells₂ meter₂ (t + u)
-    unfolding finishing
     finish_all {cells₂} {meter₂} last u f m =
         let now = subst (λ z. Moves make cells₁ meter₁ (wiping z) (wiped kind.nothing z cells₁) cells₂ meter₂ u) f m in
         chained make (read n ∷ []) (wiping n) t read_now refl (λ cs. wiped kind.nothing n cs) u now

@@ -42,17 +42,17 @@ module _ (first second : ℕ → Option ℕ) where
   settling n = scannings 2 n
 
   -- The calls of a frame.
-  unfoldable pub beginning : ℕ → List Touch
+  abbrev pub beginning : ℕ → List Touch
   beginning n = placing n ++ (scanning n ++ scanning n)
 
-  unfoldable pub feeding : ℕ → List Touch
+  abbrev pub feeding : ℕ → List Touch
   feeding n = stepping n ++ (scanning n ++ scanning n)
 
   abbrev pub feedings : ℕ → ℕ → List Touch
   feedings n zero = []
   feedings n (suc m) = feeding n ++ feedings n m
 
-  unfoldable pub finishing : ℕ → List Touch
+  abbrev pub finishing : ℕ → List Touch
   finishing n = read n ∷ wiping n
 
   -- a whole frame of m bytes
