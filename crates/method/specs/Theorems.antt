@@ -1,6 +1,6 @@
 -- The theorems on movements that public functions' contracts name.
 use Rattle.std.specs.Prelude.{◌≡◌, ℕ, ◌<◌, Bool, List, length, Option, slice_index_or}
-use Rattle.method.specs.Cells.{placed, scanned, stepped, wiped}
+use Rattle.method.specs.Cells.{across, placed, scanned, stepped, stepped_over, wiped}
 
 -- there are as many cells as before, and those above n hold what they held
 pub record LeavesOthers {M : Type 0} (n : ℕ) (before after : List M) : Type 0 where
@@ -12,3 +12,8 @@ pub record MovementsLeaveOtherCells (M : Type 0) : Type 0 where
   pub scanning : (join : M → M → M) (nothing : M) (first second : ℕ → Option ℕ) (n : ℕ) (cells : List M) → LeavesOthers n cells (scanned join nothing first second n cells)
   pub stepping : (nothing : M) (takes : ℕ → Bool) (seed : M) (n : ℕ) (cells : List M) → LeavesOthers n cells (stepped nothing takes seed n cells)
   pub wiping : (nothing : M) (n : ℕ) (cells : List M) → LeavesOthers n cells (wiped nothing n cells)
+
+-- a byte step in which marks may change as they come over leaves the cells above n alone too, and is the byte step where none does
+pub record AByteStepMayChangeMarks (M : Type 0) : Type 0 where
+  pub leaves : (nothing : M) (over : ℕ → M → M) (seed : M) (n : ℕ) (cells : List M) → LeavesOthers n cells (stepped_over nothing over seed n cells)
+  pub agrees : (nothing : M) (takes : ℕ → Bool) (seed : M) (n : ℕ) (cells : List M) → stepped nothing takes seed n cells ≡ stepped_over nothing (across nothing takes) seed n cells
