@@ -1,7 +1,7 @@
 -- Movements leave the cells above the last position alone.
 use Rattle.std.proofs.Common.{◌≡◌, ℕ, zero, suc, ◌+◌, ◌≤◌, Bool, ◌≢◌, List, get_or, set, Option, sym, refl, ap, ◌∙◌, subst, arith, length-set, get_or-set_other}
 use Rattle.method.specs.Cells.{across, filled, first_mark, joined_at, scan_from, shift, shift_over, stepped, stepped_over}
-use Rattle.method.specs.Theorems.{AByteStepMayChangeMarks, LeavesOthers, MovementsLeaveOtherCells}
+use Rattle.method.specs.Theorems.{LeavesOthers, MovementsLeaveOtherCells}
 
 module _ {M : Type 0} where
   kept : (n : ℕ) (cells : List M) → LeavesOthers n cells cells
@@ -63,6 +63,3 @@ leave_others M = record {
   stepping = λ nothing takes seed n cells. subst (LeavesOthers n cells) (sym (stepped_same nothing takes seed n cells)) (stepped_over_others nothing (across nothing takes) seed n cells);
   wiping = λ nothing n cells. filled_others (λ j. nothing) n (suc n) 0 cells (omega arith);
 }
-
-pub byte_step_may_change : (M : Type 0) → AByteStepMayChangeMarks M
-byte_step_may_change M = record { leaves = stepped_over_others; agrees = stepped_same }

@@ -13,7 +13,10 @@ pub record MovementsLeaveOtherCells (M : Type 0) : Type 0 where
   pub stepping : (nothing : M) (takes : ℕ → Bool) (seed : M) (n : ℕ) (cells : List M) → LeavesOthers n cells (stepped nothing takes seed n cells)
   pub wiping : (nothing : M) (n : ℕ) (cells : List M) → LeavesOthers n cells (wiped nothing n cells)
 
--- a byte step in which marks may change as they come over leaves the cells above n alone too, and is the byte step where none does
-pub record AByteStepMayChangeMarks (M : Type 0) : Type 0 where
-  pub leaves : (nothing : M) (over : ℕ → M → M) (seed : M) (n : ℕ) (cells : List M) → LeavesOthers n cells (stepped_over nothing over seed n cells)
-  pub agrees : (nothing : M) (takes : ℕ → Bool) (seed : M) (n : ℕ) (cells : List M) → stepped nothing takes seed n cells ≡ stepped_over nothing (across nothing takes) seed n cells
+-- a byte step in which marks may change as they come over
+abbrev pub ChangingByteStepLeavesOtherCells : Type 0 → Type 0
+ChangingByteStepLeavesOtherCells M = (nothing : M) (over : ℕ → M → M) (seed : M) (n : ℕ) (cells : List M) → LeavesOthers n cells (stepped_over nothing over seed n cells)
+
+-- where no mark changes as it comes over, the two byte steps leave the same cells
+abbrev pub ByteStepsAgree : Type 0 → Type 0
+ByteStepsAgree M = (nothing : M) (takes : ℕ → Bool) (seed : M) (n : ℕ) (cells : List M) → stepped nothing takes seed n cells ≡ stepped_over nothing (across nothing takes) seed n cells
