@@ -80,7 +80,7 @@ fn word_of(entry: Entry) -> u32
     ensures { Says result entry.kind entry.byte entry.first entry.second }
 {
     let fields = field(entry.first) * 0x400 + field(entry.second);
-    entry.kind.number() * 0x1000_0000 + u32::from(entry.byte) * 0x10_0000 + fields
+    u32::from(entry.kind) * 0x1000_0000 + u32::from(entry.byte) * 0x10_0000 + fields
 }
 
 /// The two, the smaller first, an only one first.
@@ -184,7 +184,7 @@ impl Builder {
     {
         let (first, second) = in_order(self.front, own);
         let entry = Entry {
-            kind: Kind::of_unit(unit),
+            kind: Kind::from(unit),
             byte: byte(unit),
             first,
             second,
