@@ -1,7 +1,8 @@
 use Rattle.syntax.proofs.Reader.next_unit.Goals as goal
+use Rattle.stops.specs.Stops.{stop_number}
 use Rattle.syntax.proofs.Spelled.{passed, rest_fits, rest_of}
 use Rattle.syntax.specs.Spelling.{Stuck}
-use Rattle.std.proofs.Common.{refl, subst}
+use Rattle.std.proofs.Common.{refl, ap, subst}
 
 pub overflow_sub-self : goal.overflow_sub-self
 overflow_sub-self c =
@@ -20,8 +21,8 @@ returns-in_default c = record {
     record {
       inside = c.if-place-pattern.false;
       stuck = subst Stuck (rest_of c.args.self.now.place c.args.self.now.pattern.now) c.in_default.ensures;
-      number = refl;
-      place = refl;
+      number = ap stop_number c.at.ensures.0;
+      place = c.at.ensures.1;
     },
     refl,
   );
