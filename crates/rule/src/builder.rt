@@ -181,7 +181,7 @@ impl Builder {
 
     /// Takes a letter.
     fn letter(&mut self, letter: Letter)
-        requires { Room self.old }
+        requires { Ready self.old }
         ensures { (us : List Written) (os : List ℕ) (x : Before) → Stands self.old us os x → Stands self.new (us ++ (Plain letter ∷ [])) os operand }
     {
         let position = self.count;
@@ -193,7 +193,7 @@ impl Builder {
 
     /// Takes a `(` at a place.
     fn open_group(&mut self, place: usize)
-        requires { (Room self.old) × (self.old.depth ≤ most_groups) }
+        requires { (Ready self.old) × (self.old.depth ≤ most_groups) }
         ensures { (us : List Written) (os : List ℕ) (x : Before) → length os < most_groups → Stands self.old us os x → Stands self.new (us ++ (Open ∷ [])) (place ∷ os) start }
     {
         let position = self.count;
@@ -211,7 +211,7 @@ impl Builder {
 
     /// Takes a `)`.
     fn close_group(&mut self)
-        requires { (Room self.old) × ((0 < self.old.depth) × ((self.old.depth ≤ most_groups + 1) × (Position (OpenedLast self.old).bar))) }
+        requires { Ready self.old }
         ensures { (us : List Written) (o : ℕ) (os : List ℕ) (x : Before) → Stands self.old us (o ∷ os) x → Stands self.new (us ++ (Close ∷ [])) os operand }
     {
         let position = self.count;
@@ -225,7 +225,7 @@ impl Builder {
 
     /// Takes a `|`.
     fn bar(&mut self)
-        requires { (Room self.old) × ((0 < self.old.depth) × ((self.old.depth ≤ most_groups + 1) × (Position (OpenedLast self.old).bar))) }
+        requires { Ready self.old }
         ensures { (us : List Written) (os : List ℕ) (x : Before) → Stands self.old us os x → Stands self.new (us ++ (Bar ∷ [])) os start }
     {
         let position = self.count;
@@ -239,7 +239,7 @@ impl Builder {
 
     /// Takes a repeat sign behind its operand.
     fn repeat(&mut self, sign: Sign)
-        requires { (Room self.old) × ((self.old.start < self.old.count) × (slice_index self.old.words self.old.start % 0x400 ≡ absent)) }
+        requires { (Ready self.old) × (self.old.last ≡ Last.Operand) }
         ensures { (us : List Written) (os : List ℕ) → Stands self.old us os operand → Stands self.new (us ++ (Repeat sign ∷ [])) os after_sign }
     {
         let position = self.count;
@@ -282,7 +282,7 @@ impl Builder {
 
     /// The place of the innermost `(` whose group is still open.
     fn open_place(&self) -> Option<usize>
-        requires { (0 < self.now.depth) × (self.now.depth ≤ most_groups + 1) }
+        requires { (bytes : List ℕ) × ReadTo bytes self.now }
         ensures { MatchOption result (self.now.depth ≡ 1) (λ p. (1 < self.now.depth) × (p ≡ (OpenedLast self.now).place)) }
     {
         (self.depth > 1).then_some(self.groups[self.depth - 1].place)

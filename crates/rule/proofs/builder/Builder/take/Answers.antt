@@ -1,37 +1,8 @@
-use Rattle.std.proofs.Common.{◌+◌, ◌<◌, ◌≤◌, ◌∷◌, sym, ap, ◌∙◌, arith}
+use Rattle.std.proofs.Common.{◌∷◌, sym, ap, ◌∙◌}
 use Rattle.language.specs.Faults.{a_bar, a_letter, an_open, operand, start}
-use Rattle.language.specs.Limits.{most_groups}
-use Rattle.rule.proofs.Readied.{bar_at, depth_high, depth_low, is_closed, is_deep, is_shallow, refused_again, refused_as, refused_first, room_at, start_low, start_word, took_as, took_close, took_sign}
+use Rattle.rule.proofs.Readied.{is_closed, is_deep, is_shallow, refused_again, refused_as, refused_first, took_as, took_close, took_sign}
 use Rattle.rule.proofs.builder.Builder.take.Goals as goal
-use Rattle.rule.specs.Standing.{OpenedLast, Ready, Room, before_of}
-use Rattle.rule.specs.Words.{Position}
-use Rattle.rule.specs.declared.builder.Builder.{Builder}
-
-room_of : (b : Builder) → Ready b → Room b
-room_of b r = let few = r.few in room_at b r.us r.os r.x r.stands (omega arith)
-
--- what a unit that speaks of the innermost group needs
-inner_of : (b : Builder) → Ready b → Room b × ((0 < b.depth) × ((b.depth ≤ most_groups + 1) × Position (OpenedLast b).bar))
-inner_of b r =
-    let few = r.few in
-    let s = r.stands in
-    (room_of b r, (depth_low b r.us r.os r.x s, (depth_high b r.us r.os r.x s, bar_at b r.us r.os r.x s (omega arith))))
-
-pub letter-requires : goal.letter-requires
-letter-requires c = room_of c.args.self.now c.requires
-
-pub open_group-requires : goal.open_group-requires
-open_group-requires c = (room_of c.args.self.now c.requires, c.if-self-gt-MOST_GROUPS.false)
-
-pub bar-requires : goal.bar-requires
-bar-requires c = inner_of c.args.self.now c.requires
-
-pub close_group-requires : goal.close_group-requires
-close_group-requires c = inner_of c.args.self.now c.requires
-
-pub repeat-requires : goal.repeat-requires
-repeat-requires c =
-    (room_of c.args.self.now c.requires, (start_low c.args.self.now c.requires c.in-Operand.is, start_word c.args.self.now c.requires c.in-Operand.is))
+use Rattle.rule.specs.Standing.{before_of}
 
 pub returns-in-Open : goal.returns-in-Open
 returns-in-Open c us os x s = (rw c.at.ensures.0 (refused_as c.in-Open.is (is_deep c.args.self.now us os x s c.if-self-gt-MOST_GROUPS.true)), c.at.ensures.1)
