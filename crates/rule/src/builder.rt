@@ -76,8 +76,8 @@ fn word_of(entry: Entry) -> u32
     requires { (Position entry.first) × (Position entry.second) }
     ensures { Says result entry.kind entry.byte entry.first entry.second }
 {
-    let fields = field(entry.first) * 0x400 + field(entry.second);
-    u32::from(entry.kind) * 0x1000_0000 + u32::from(entry.byte) * 0x10_0000 + fields
+    let fields = (field(entry.first) << 10) + field(entry.second);
+    (u32::from(entry.kind) << 28) + (u32::from(entry.byte) << 20) + fields
 }
 
 /// The two, the smaller first, an only one first.
@@ -95,8 +95,8 @@ fn with_last(old: u32, position: u16) -> u32
     requires { (position < absent) × (old % 0x400 ≡ absent) }
     ensures { (kind : Kind) (byte : ℕ) (first : Maybe ℕ) → Under first position → Says old kind byte first None → Says result kind byte (firsts first (Some position)) (seconds first (Some position)) }
 {
-    if (old / 0x400) % 0x400 == ABSENT {
-        old - ABSENT * 0x400 + u32::from(position) * 0x400
+    if (old >> 10) & 0x3ff == ABSENT {
+        old - (ABSENT << 10) + (u32::from(position) << 10)
     } else {
         old - ABSENT + u32::from(position)
     }
