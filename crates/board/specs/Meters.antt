@@ -23,14 +23,14 @@ abbrev pub Admits : {X : Type 0} → Make X → ℕ → X → Touch → X → Re
 Admits make size meter t meter' (Ok at) = Accepted size (make.allowed size meter) (cell_of t) × (at ≡ cell_of t) × (meter' ≡ make.step size meter t)
 Admits make size meter t meter' (Err s) = Refused size (make.allowed size meter) (cell_of t) (stop_number s) × (meter' ≡ meter)
 
--- a board keeps its lent slice of marks, and what its meter keeps
-abbrev pub metered : {M G : Type 0} → Keeps G → Keeps (Metered M G)
+-- a board keeps its lent slice of marks, and what its meter keeps in its memory
+abbrev pub metered : {M W G : Type 0} → Keeps (W × G) → Keeps (Metered M W G)
 metered keeps = record {
-  same = λ a b. Lent a.marks b.marks × keeps.same a.meter b.meter;
-  still = λ a. (lent_still a.marks, keeps.still a.meter);
-  on = λ a b c p q. (lent_on p.0 q.0, keeps.on a.meter b.meter c.meter p.1 q.1);
+  same = λ a b. Lent a.marks b.marks × keeps.same (a.memory, a.meter) (b.memory, b.meter);
+  still = λ a. (lent_still a.marks, keeps.still (a.memory, a.meter));
+  on = λ a b c p q. (lent_on p.0 q.0, keeps.on (a.memory, a.meter) (b.memory, b.meter) (c.memory, c.meter) p.1 q.1);
 }
 
--- what a meter keeps that is over no memory
-abbrev pub nothing_lent : {G : Type 0} → Keeps G
+-- what a meter keeps that has no memory
+abbrev pub nothing_lent : {G : Type 0} → Keeps (Unit {0} × G)
 nothing_lent = record { same = λ a b. Unit {0}; still = λ a. tt; on = λ a b c p q. tt }

@@ -15,7 +15,7 @@ pub struct TouchMeter {
 }
 
 /// A board over a lent slice of marks that counts its touches.
-pub type Counting<'a, M> = Metered<'a, M, TouchMeter>;
+pub type Counting<'a, M> = Metered<'a, M, (), TouchMeter>;
 
 impl<'a, M: Mark> Counting<'a, M> {
     /// A board that has made no touch.
@@ -24,29 +24,30 @@ impl<'a, M: Mark> Counting<'a, M> {
     {
         Metered {
             marks,
+            memory: (),
             meter: TouchMeter { touches: 0 },
         }
     }
 }
 
-impl Meter for TouchMeter {
+impl Meter<()> for TouchMeter {
     ghost Gauge = { ℕ };
 
     ghost make = { counting };
 
-    ghost value = { λ m. m.touches };
+    ghost value = { λ memory m. m.touches };
 
     ghost keeps = { nothing_lent };
 
-    fn allowance(&self) -> u64 {
+    fn allowance(&self, _memory: &()) -> u64 {
         u64::MAX
     }
 
-    fn reading(&self) -> u64 {
+    fn reading(&self, _memory: &()) -> u64 {
         self.touches
     }
 
-    fn count(&mut self, _touch: Touch) -> Result<(), Stop> {
+    fn count(&mut self, _memory: &mut (), _touch: Touch) -> Result<(), Stop> {
         self.touches = self.touches.wrapping_add(1);
         Ok(())
     }

@@ -7,27 +7,28 @@ ghost use Rattle.std.specs.Prelude.{◌≡◌, ℕ};
 use crate::Touch;
 use stops::Stop;
 
-/// A meter of a make of board. Whatever the size of its board, it allows, shows and counts what the make says.
-pub trait Meter: Drop {
+/// A meter of a make of board, which may note touches in memory of type W. Whatever the size of its board, it allows, shows
+/// and counts what the make says.
+pub trait Meter<W> {
     /// The values of the meter.
     ghost Gauge: { Type 0 };
 
     ghost make: { Make Gauge };
 
-    ghost value: { Self → Gauge };
-    /// The memory that the meter is over, and what it leaves alone there.
-    ghost keeps: { Keeps Self };
+    ghost value: { W → Self → Gauge };
+    /// What the meter leaves alone in its memory.
+    ghost keeps: { Keeps (W × Self) };
 
     /// How many touches the meter allows at least.
-    fn allowance(&self) -> u64
-        ensures { (size : ℕ) → result ≡ make.allowed size (value self.now) };
+    fn allowance(&self, memory: &W) -> u64
+        ensures { (size : ℕ) → result ≡ make.allowed size (value memory.now self.now) };
 
     /// What the meter shows.
-    fn reading(&self) -> u64
-        ensures { (size : ℕ) → result ≡ make.shows size (value self.now) };
+    fn reading(&self, memory: &W) -> u64
+        ensures { (size : ℕ) → result ≡ make.shows size (value memory.now self.now) };
 
     /// Counts a touch. One that is not allowed is refused with stop 19, and changes nothing.
-    fn count(&mut self, touch: Touch) -> Result<(), Stop>
-        ensures kept { keeps.same self.old self.new }
-        ensures done { Moves make (value self.old) (touch_of touch) (value self.new) result };
+    fn count(&mut self, memory: &mut W, touch: Touch) -> Result<(), Stop>
+        ensures kept { keeps.same (memory.old, self.old) (memory.new, self.new) }
+        ensures done { Moves make (value memory.old self.old) (touch_of touch) (value memory.new self.new) result };
 }

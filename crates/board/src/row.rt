@@ -20,7 +20,7 @@ pub struct RowMeter {
 }
 
 /// A board over a lent slice of marks that counts the rows that it opens.
-pub type Row<'a, M> = Metered<'a, M, RowMeter>;
+pub type Row<'a, M> = Metered<'a, M, (), RowMeter>;
 
 impl<'a, M: Mark> Row<'a, M> {
     /// A board that has opened no row.
@@ -29,6 +29,7 @@ impl<'a, M: Mark> Row<'a, M> {
     {
         Metered {
             marks,
+            memory: (),
             meter: RowMeter {
                 last: None,
                 opened: 0,
@@ -37,24 +38,24 @@ impl<'a, M: Mark> Row<'a, M> {
     }
 }
 
-impl Meter for RowMeter {
+impl Meter<()> for RowMeter {
     ghost Gauge = { Rows };
 
     ghost make = { rows };
 
-    ghost value = { λ m. record { last = m.last; opened = m.opened } };
+    ghost value = { λ memory m. record { last = m.last; opened = m.opened } };
 
     ghost keeps = { nothing_lent };
 
-    fn allowance(&self) -> u64 {
+    fn allowance(&self, _memory: &()) -> u64 {
         u64::MAX
     }
 
-    fn reading(&self) -> u64 {
+    fn reading(&self, _memory: &()) -> u64 {
         self.opened
     }
 
-    fn count(&mut self, touch: Touch) -> Result<(), Stop> {
+    fn count(&mut self, _memory: &mut (), touch: Touch) -> Result<(), Stop> {
         let row = touch.cell() / CELLS_IN_ROW;
         if self.last != Some(row) {
             self.opened = self.opened.wrapping_add(1);

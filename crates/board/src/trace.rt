@@ -10,51 +10,51 @@ use stops::Stop;
 
 /// Writes each touch as a word into a lent slice of words. It allows as many touches as there are words left.
 #[derive(Drop)]
-pub struct WordMeter<'a> {
-    words: &'a mut [u32],
+pub struct WordMeter {
     used: usize,
 }
 
 /// A board over a lent slice of marks that writes its touches into a lent slice of words.
-pub type Trace<'a, M> = Metered<'a, M, WordMeter<'a>>;
+pub type Trace<'a, M> = Metered<'a, M, &'a mut [u32], WordMeter>;
 
 impl<'a, M: Mark> Trace<'a, M> {
     /// A board that has written no word.
     pub fn new(marks: &'a mut [M], words: &'a mut [u32]) -> Trace<'a, M>
         ensures marks { (result.marks.ghost_name ≡ marks.entry.ghost_name) × (result.marks.now ≡ marks.old) }
-        ensures words { (result.meter.words.ghost_name ≡ words.entry.ghost_name) × (result.meter.words.now ≡ words.old) }
+        ensures words { (result.memory.ghost_name ≡ words.entry.ghost_name) × (result.memory.now ≡ words.old) }
         ensures used { result.meter.used ≡ 0 }
     {
         Metered {
             marks,
-            meter: WordMeter { words, used: 0 },
+            memory: words,
+            meter: WordMeter { used: 0 },
         }
     }
 }
 
-impl<'a> Meter for WordMeter<'a> {
+impl<'a> Meter<&'a mut [u32]> for WordMeter {
     ghost Gauge = { Words };
 
     ghost make = { tracing };
 
-    ghost value = { λ m. record { written = take m.used m.words.now; free = length m.words.now - m.used } };
+    ghost value = { λ words m. record { written = take m.used words.now; free = length words.now - m.used } };
 
     ghost keeps = { words_kept };
 
-    fn allowance(&self) -> u64 {
-        self.words.len().saturating_sub(self.used) as u64
+    fn allowance(&self, words: &&'a mut [u32]) -> u64 {
+        words.len().saturating_sub(self.used) as u64
     }
 
-    fn reading(&self) -> u64 {
-        self.used.min(self.words.len()) as u64
+    fn reading(&self, words: &&'a mut [u32]) -> u64 {
+        self.used.min(words.len()) as u64
     }
 
-    fn count(&mut self, touch: Touch) -> Result<(), Stop> {
+    fn count(&mut self, words: &mut &'a mut [u32], touch: Touch) -> Result<(), Stop> {
         let used = self.used;
-        if used >= self.words.len() {
+        if used >= words.len() {
             return Err(Stop::NoAllowance);
         }
-        self.words[used] = touch.into();
+        words[used] = touch.into();
         self.used = used + 1;
         Ok(())
     }
