@@ -1,7 +1,6 @@
 -- The cells in the front of a lent slice.
-use Rattle.std.proofs.Common.{◌≡◌, ℕ, zero, suc, ◌<◌, ◌≤◌, min, List, [], ◌∷◌, length, get_or, take, drop, set, Result, sym, refl, ap, ◌∙◌, subst, arith, length-take, MutBor}
+use Rattle.std.proofs.Common.{◌≡◌, ℕ, zero, suc, ◌<◌, min, List, [], ◌∷◌, length, get_or, take, drop, set, Result, sym, refl, ap, ◌∙◌, subst, arith, length-take}
 use Rattle.board.specs.Boards.{Make, Touch, most_cells}
-use Rattle.board.specs.Lent.{Lent}
 use Rattle.board.specs.Meters.{Admits}
 use Rattle.std.proofs.lemmas.List.{drop-set-lt, get_or-take}
 use Rattle.stops.specs.declared.Stop.{Stop}

@@ -63,22 +63,14 @@ impl<'a, M: Mark, W, G: Meter<W>> Board for Metered<'a, M, W, G> {
     }
 
     fn read(&mut self, cell: u64) -> Result<M, Stop> {
-        let at = admit(
-            &mut self.meter,
-            &mut self.memory,
-            self.marks.len(),
-            Touch::Read(cell),
-        )?;
+        let len = self.marks.len();
+        let at = admit(&mut self.meter, &mut self.memory, len, Touch::Read(cell))?;
         Ok(self.marks[at])
     }
 
     fn write(&mut self, cell: u64, mark: M) -> Result<(), Stop> {
-        let at = admit(
-            &mut self.meter,
-            &mut self.memory,
-            self.marks.len(),
-            Touch::Write(cell),
-        )?;
+        let len = self.marks.len();
+        let at = admit(&mut self.meter, &mut self.memory, len, Touch::Write(cell))?;
         self.marks[at] = mark;
         Ok(())
     }

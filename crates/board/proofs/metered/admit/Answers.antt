@@ -1,6 +1,5 @@
 use Rattle.board.proofs.metered.admit.Goals as goal
-use Rattle.board.specs.Boards.{Refused, cell_of, most_cells, no_allowance, no_cell}
-use Rattle.board.specs.Meters.{touch_of}
+use Rattle.board.specs.Boards.{Refused, most_cells, no_allowance, no_cell}
 use Rattle.std.proofs.lemmas.Result.{err_from_is_err_and}
 use Rattle.std.proofs.Common.{min, sym, refl, ◌∙◌, subst, arith}
 

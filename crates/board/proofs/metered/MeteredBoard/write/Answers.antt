@@ -1,4 +1,4 @@
-use Rattle.board.proofs.Cells.{by_cells, cells_written, beyond_written, mark_read}
+use Rattle.board.proofs.Cells.{by_cells, cells_written, beyond_written}
 use Rattle.board.proofs.metered.MeteredBoard.write.Goals as goal
 use Rattle.board.specs.Boards.{write}
 use Rattle.board.specs.Lent.{lent_still}
