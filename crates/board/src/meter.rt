@@ -10,13 +10,13 @@ use stops::Stop;
 /// A meter of a make of board, which may note touches in memory of type W. Whatever the size of its board, it allows, shows
 /// and counts what the make says.
 pub trait Meter<W> {
-    /// The values of the meter.
+    /// The values of the make's meter.
     ghost Gauge: { Type 0 };
-
+    /// How a touch moves the meter, and what size and meter show.
     ghost make: { Make Gauge };
-
+    /// Where the meter stands.
     ghost value: { W → Self → Gauge };
-    /// What the meter leaves alone in its memory.
+    /// The memory that the meter is over, and what it leaves alone there.
     ghost keeps: { Keeps (W × Self) };
 
     /// How many touches the meter allows at least.

@@ -3,11 +3,11 @@
 ghost use Rattle.board.specs.Boards.{cell_of};
 ghost use Rattle.board.specs.Makes.{word_of};
 ghost use Rattle.board.specs.Meters.{touch_of};
-ghost use Rattle.std.specs.Prelude.{◌≡◌};
+ghost use Rattle.std.specs.Prelude.{◌≡◌, ◌%◌, ◌^◌};
 
 /// The lowest so many bits of a word are the cell.
 const CELL_BITS: u32 = 30;
-/// The cell is known modulo this number, which is also what the bits above it say of a write; of a read they say 0.
+/// What the bits above say in the word of a write; in the word of a read they are 0.
 const WRITTEN: u32 = 1 << CELL_BITS;
 
 /// An accepted access, by its cell.
@@ -30,13 +30,20 @@ impl Touch {
     }
 }
 
+/// The bits of a cell that a word holds.
+fn cell_bits(cell: u64) -> u32
+    ensures { result ≡ cell % 2 ^ 30 }
+{
+    (cell % (1 << CELL_BITS)) as u32
+}
+
 impl From<Touch> for u32 {
     ghost from_gives = { λ touch word. word ≡ word_of (touch_of touch) };
 
     fn from(touch: Touch) -> u32 {
         match touch {
-            Touch::Read(cell) => (cell % u64::from(WRITTEN)) as u32,
-            Touch::Write(cell) => WRITTEN + (cell % u64::from(WRITTEN)) as u32,
+            Touch::Read(cell) => cell_bits(cell),
+            Touch::Write(cell) => WRITTEN + cell_bits(cell),
         }
     }
 }

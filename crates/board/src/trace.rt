@@ -50,12 +50,11 @@ impl<'a> Meter<&'a mut [u32]> for WordMeter {
     }
 
     fn count(&mut self, words: &mut &'a mut [u32], touch: Touch) -> Result<(), Stop> {
-        let used = self.used;
-        if used >= words.len() {
+        if self.used >= words.len() {
             return Err(Stop::NoAllowance);
         }
-        words[used] = touch.into();
-        self.used = used + 1;
+        words[self.used] = touch.into();
+        self.used += 1;
         Ok(())
     }
 }
