@@ -1,15 +1,14 @@
 use Rattle.board.proofs.Cells.{by_cells, cells_written, beyond_written}
 use Rattle.board.proofs.metered.MeteredBoard.write.Goals as goal
 use Rattle.board.specs.Boards.{write}
-use Rattle.board.specs.Lent.{lent_still}
 use Rattle.std.proofs.lemmas.Result.{err_from_is_err_and}
 use Rattle.std.proofs.Common.{Err, Ok, refl, rules}
 
-pub returns-in_err-at : goal.returns-in_err-at
-returns-in_err-at g c =
+pub returns-in_err-at-clause-done : goal.returns-in_err-at-clause-done
+returns-in_err-at-clause-done g c =
     let p = err_from_is_err_and c.from_residual.result c.from_residual.ensures.1 in
     let why = by_cells g.G.Meter.make c.args.self.now.marks.now _ (write c.args.cell) _ (Err c.in_err-at.field-0.0) c.in_err-at.ensures.done in
-    rw (p.1, p.2) (record { kept = (lent_still _, c.admit.ensures.kept); done = (why.0, refl, why.1) })
+    rw (p.1, p.2) (why.0, refl, why.1)
 
 pub returns : goal.returns
 returns g c =
