@@ -7,7 +7,6 @@ use board::{Board, Counting, Row, Trace};
 use drive::{Access, drive_counting, drive_row, drive_trace, touch};
 use mark::{Mark, Tail, YesNo};
 use std::io;
-use stops::Stop;
 
 /// The cells of each board.
 const CELLS: usize = 20;
@@ -15,62 +14,28 @@ const CELLS: usize = 20;
 const WORDS: usize = 6;
 /// What the words hold before.
 const UNUSED: u32 = 0xFFFFFFFF;
-/// The number of accesses.
-const ACCESSES: usize = 11;
 
-/// The accesses, by their number from 0 on; 20 and the largest number are no cells.
-fn access<M: Mark>(number: usize) -> Access<M> {
-    match number {
-        0 => Access::Write(0, M::seed(0)),
-        1 => Access::Read(0),
-        2 => Access::Read(15),
-        3 => Access::Read(16),
-        4 => Access::Read(20),
-        5 => Access::Write(19, M::seed(3)),
-        6 => Access::Write(u64::MAX, M::seed(0)),
-        7 => Access::Read(19),
-        8 => Access::Write(1, M::seed(0)),
-        9 => Access::Read(1),
-        _ => Access::Read(20),
-    }
-}
-
-/// Fills a slice with the accesses.
-fn list<M: Mark>(accesses: &mut [Access<M>]) {
-    for i in 0..accesses.len() {
-        accesses[i] = access(i);
-    }
+/// The accesses; 20 and the largest number are no cells.
+fn accesses<M: Mark>() -> [Access<M>; 11] {
+    [
+        Access::Write(0, M::seed(0)),
+        Access::Read(0),
+        Access::Read(15),
+        Access::Read(16),
+        Access::Read(20),
+        Access::Write(19, M::seed(3)),
+        Access::Write(u64::MAX, M::seed(0)),
+        Access::Read(19),
+        Access::Write(1, M::seed(0)),
+        Access::Read(1),
+        Access::Read(20),
+    ]
 }
 
 /// Puts nothing into each cell.
 fn wipe<M: Mark>(marks: &mut [M]) {
-    for i in 0..marks.len() {
-        marks[i] = M::nothing();
-    }
-}
-
-/// Prints an access.
-fn show_access<M: Mark>(rt: &HostRuntime, access: Access<M>) -> io::Result<()> {
-    match access {
-        Access::Read(cell) => print!(rt; "  read {cell}: "),
-        Access::Write(cell, mark) => {
-            let code = mark.code();
-            print!(rt; "  write {code} to {cell}: ")
-        }
-    }
-}
-
-/// Prints what an access answered.
-fn show_answer<M: Mark>(rt: &HostRuntime, answer: Result<M, Stop>) -> io::Result<()> {
-    match answer {
-        Ok(mark) => {
-            let code = mark.code();
-            print!(rt; "mark {code}")
-        }
-        Err(stop) => {
-            let number = stop.number();
-            print!(rt; "stop {number}, {stop}")
-        }
+    for mark in marks {
+        *mark = M::nothing();
     }
 }
 
@@ -81,34 +46,30 @@ fn show_accesses<B: Board>(
     board: &mut B,
     accesses: &[Access<B::M>],
 ) -> io::Result<()> {
-    let size = board.size();
-    let allowance = board.allowance();
-    println!(rt; " {name}: {size} cells, allowance {allowance}")?;
+    println!(rt;
+        " {name}: {} cells, allowance {}",
+        board.size(),
+        board.allowance()
+    )?;
     for access in accesses {
-        show_access(rt, *access)?;
-        show_answer(rt, touch(board, *access))?;
-        let reading = board.reading();
-        println!(rt; "; reading {reading}")?;
+        match access {
+            Access::Read(cell) => print!(rt; "  read {cell}: ")?,
+            Access::Write(cell, mark) => print!(rt; "  write {} to {cell}: ", mark.code())?,
+        }
+        match touch(board, *access) {
+            Ok(mark) => print!(rt; "mark {}", mark.code())?,
+            Err(stop) => print!(rt; "stop {}, {stop}", stop.number())?,
+        }
+        println!(rt; "; reading {}", board.reading())?;
     }
     Ok(())
 }
 
-/// Prints the marks and the last reading.
-fn show_marks<M: Mark>(rt: &HostRuntime, marks: &[M], reading: u64) -> io::Result<()> {
+/// Prints the last reading and the marks.
+fn show_left<M: Mark>(rt: &HostRuntime, reading: u64, marks: &[M]) -> io::Result<()> {
     print!(rt; "  left: reading {reading}, marks")?;
     for mark in marks {
-        let code = mark.code();
-        print!(rt; " {code}")?;
-    }
-    println!(rt; "")
-}
-
-/// Prints the words of a trace.
-fn show_words(rt: &HostRuntime, words: &[u32]) -> io::Result<()> {
-    print!(rt; "  words:")?;
-    for word in words {
-        let word = *word;
-        print!(rt; " {word:08X}")?;
+        print!(rt; " {}", mark.code())?;
     }
     println!(rt; "")
 }
@@ -122,29 +83,30 @@ fn show_counters<M: Mark>(
     wipe(marks);
     show_accesses(rt, "counting", &mut Counting::new(marks), accesses)?;
     wipe(marks);
-    let reading = drive_counting(marks, accesses);
-    show_marks(rt, marks, reading)?;
+    show_left(rt, drive_counting(marks, accesses), marks)?;
     wipe(marks);
     show_accesses(rt, "row", &mut Row::new(marks), accesses)?;
     wipe(marks);
-    let reading = drive_row(marks, accesses);
-    show_marks(rt, marks, reading)
+    show_left(rt, drive_row(marks, accesses), marks)
 }
 
-/// Prints a trace board over the marks and the words.
+/// Prints a trace board over the marks, and its words.
 fn show_trace<M: Mark>(
     rt: &HostRuntime,
     marks: &mut [M],
     accesses: &[Access<M>],
 ) -> io::Result<()> {
-    let mut words = [UNUSED; WORDS];
     wipe(marks);
+    let mut words = [UNUSED; WORDS];
     show_accesses(rt, "trace", &mut Trace::new(marks, &mut words), accesses)?;
-    let mut words = [UNUSED; WORDS];
     wipe(marks);
-    let reading = drive_trace(marks, &mut words, accesses);
-    show_marks(rt, marks, reading)?;
-    show_words(rt, &words)
+    let mut words = [UNUSED; WORDS];
+    show_left(rt, drive_trace(marks, &mut words, accesses), marks)?;
+    print!(rt; "  words:")?;
+    for word in words {
+        print!(rt; " {word:08X}")?;
+    }
+    println!(rt; "")
 }
 
 /// Prints all three boards for one kind of mark.
@@ -152,19 +114,14 @@ fn show_kind<M: Mark>(
     rt: &HostRuntime,
     name: &str,
     marks: &mut [M],
-    accesses: &mut [Access<M>],
+    accesses: &[Access<M>],
 ) -> io::Result<()> {
     println!(rt; "{name}")?;
-    list(accesses);
     show_counters(rt, marks, accesses)?;
     show_trace(rt, marks, accesses)
 }
 
 fn main(rt: HostRuntime) -> io::Result<()> {
-    let mut marks = [YesNo::Nothing; CELLS];
-    let mut accesses = [Access::Read(0); ACCESSES];
-    show_kind(&rt, "yes/no", &mut marks, &mut accesses)?;
-    let mut marks = [Tail::Nothing; CELLS];
-    let mut accesses = [Access::Read(0); ACCESSES];
-    show_kind(&rt, "tail", &mut marks, &mut accesses)
+    show_kind(&rt, "yes/no", &mut [YesNo::nothing(); CELLS], &accesses())?;
+    show_kind(&rt, "tail", &mut [Tail::nothing(); CELLS], &accesses())
 }

@@ -1,7 +1,7 @@
 use Rattle.drive.proofs.Driven.{touched}
 use Rattle.drive.proofs.drive.Goals as goal
 use Rattle.drive.specs.Drives.{after, state}
-use Rattle.std.proofs.lemmas.List.{at_drop_all, at_drop_more}
+use Rattle.std.proofs.lemmas.List.{at_drop_more}
 use Rattle.std.proofs.Common.{◌+◌, ◌∷◌, drop, sym, ap, ◌∙◌}
 
 pub loop-access-preserved : goal.loop-access-preserved
@@ -18,12 +18,3 @@ loop-access-preserved g c =
           ∙ sym (at_drop_more (after b.make (state (b.cells before) (b.meter before))) xs i a c.loop-access-test.true)
           ∙ c.loop-access.invariant.1,
     )
-
-pub returns : goal.returns
-returns g c =
-    let b = g.B.Board in
-    let last = c.loop-access.board in
-    record {
-      kept = c.loop-access.invariant.0;
-      done = sym (at_drop_all (after b.make (state (b.cells last) (b.meter last))) c.args.accesses.now c.loop-access.access-index c.loop-access-test.false) ∙ c.loop-access.invariant.1;
-    }

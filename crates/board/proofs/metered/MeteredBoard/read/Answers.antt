@@ -1,0 +1,18 @@
+use Rattle.board.proofs.Cells.{by_cells, mark_read}
+use Rattle.board.proofs.metered.MeteredBoard.read.Goals as goal
+use Rattle.board.specs.Boards.{read}
+use Rattle.std.proofs.lemmas.Result.{err_from_is_err_and}
+use Rattle.std.proofs.Common.{Err, Ok, refl, rules}
+
+pub returns-in_err-at-clause-done : goal.returns-in_err-at-clause-done
+returns-in_err-at-clause-done g c =
+    let p = err_from_is_err_and c.from_residual.result c.from_residual.ensures.1 in
+    let why = by_cells g.G.Meter.make c.args.self.now.marks.now _ (read c.args.cell) _ (Err c.in_err-at.field-0.0) c.in_err-at.ensures.done in
+    rw (p.1, p.2) (why.0, refl, why.1)
+
+pub returns-clause-done : goal.returns-clause-done
+returns-clause-done g c =
+    let xs = c.args.self.now.marks.now in
+    let there = c.in_ok-at.ensures.done in
+    let done = by_cells g.G.Meter.make xs _ (read c.args.cell) _ (Ok c.in_ok-at.at) there in
+    (done.0, mark_read xs (there.1, there.0.inside) _ (search rules), refl, done.2)
