@@ -1,13 +1,10 @@
 //! The four movements of a frame, for every board and every kind of mark. A board may cut a movement short and leave it half
 //! done, so nobody but the screen makes one, and only where the board has enough for all of it.
 
-ghost use Rattle.std.specs.Prelude.{◌≡◌, ℕ, ◌+◌, ◌^◌, ◌<◌, true, length, is_ok, IfOk, if◌then◌else◌, OnOk};
-ghost use Rattle.board.specs.Boards.{Reads, Writes};
-ghost use Rattle.language.specs.Limits.{most_units};
-ghost use Rattle.rule.specs.Words.{first_of, second_of, takes_at};
-ghost use Rattle.method.specs.Cells.{first_mark, placed, scanned, settled, source, stepped, wiped};
-ghost use Rattle.screen.specs.Moving.{Enough, Moves};
-ghost use Rattle.screen.specs.Schedules.{placing, scanning, settling, stepping, wiping};
+ghost use Rattle.std.specs.Prelude.{◌≡◌, ◌+◌, ◌^◌, ◌<◌, if◌then◌else◌};
+ghost use Rattle.method.specs.Cells.{first_mark, placed, source};
+ghost use Rattle.screen.specs.ByRule.{placed_by, placing_of, scanned_by, scanning_of, settled_by, settling_of, stepped_by, stepping_of, wiped_by, wiping_of};
+ghost use Rattle.screen.specs.Moving.{Movement, ReadOf, WriteOf};
 
 use board::Board;
 use mark::Mark;
@@ -17,9 +14,7 @@ use stops::Stop;
 /// Reads a cell, and counts the touch.
 pub(crate) fn read<B: Board>(board: &mut B, cell: u64, touches: &mut u64) -> Result<B::M, Stop>
     requires { touches.old < 2 ^ 32 }
-    ensures kept { B.keeps.same board.old board.new }
-    ensures done { Reads B.make (B.cells board.old) (B.meter board.old) cell (B.cells board.new) (B.meter board.new) result }
-    ensures counted { OnOk result (touches.new ≡ touches.old + 1) }
+    ensures { ReadOf B.make B.keeps B.cells B.meter board.old cell board.new result touches.old touches.new }
 {
     let mark = board.read(cell)?;
     *touches += 1;
@@ -29,9 +24,7 @@ pub(crate) fn read<B: Board>(board: &mut B, cell: u64, touches: &mut u64) -> Res
 /// Writes a cell, and counts the touch.
 fn write<B: Board>(board: &mut B, cell: u64, mark: B::M, touches: &mut u64) -> Result<(), Stop>
     requires { touches.old < 2 ^ 32 }
-    ensures kept { B.keeps.same board.old board.new }
-    ensures done { Writes B.make (B.cells board.old) (B.meter board.old) cell mark (B.cells board.new) (B.meter board.new) result }
-    ensures counted { OnOk result (touches.new ≡ touches.old + 1) }
+    ensures { WriteOf B.make B.keeps B.cells B.meter board.old cell mark board.new result touches.old touches.new }
 {
     board.write(cell, mark)?;
     *touches += 1;
@@ -45,35 +38,29 @@ fn first_mark<M: Mark>(first: M, cell: u64) -> M
     if cell == 0 { first } else { M::nothing() }
 }
 
-/// Writes `first` to cell 0 and nothing to cells 1 to `last`, in that order.
-fn fill<B: Board>(board: &mut B, last: u16, first: B::M) -> Result<u64, Stop>
-    ensures kept { B.keeps.same board.old board.new }
-    ensures done { IfOk result (Moves B.make (B.cells board.old) (B.meter board.old) (placing last) (placed first B.M.Mark.kind.nothing last (B.cells board.old)) (B.cells board.new) (B.meter board.new)) }
-    ensures enough { Enough B.make (length (B.cells board.old)) (B.meter board.old) (placing last) → is_ok result ≡ true }
+/// Writes `first` to cell 0 and nothing to the other cells up to the last, in that order.
+fn fill<B: Board>(board: &mut B, rule: &Rule, first: B::M) -> Result<u64, Stop>
+    ensures { Movement B.make B.keeps B.cells B.meter board.old (placing_of rule.now) (placed first B.M.Mark.kind.nothing rule.now.last (B.cells board.old)) board.new result }
 {
     let mut touches = 0;
-    for cell in 0..u64::from(last) + 1 {
+    for cell in 0..=u64::from(rule.last()) {
         write(board, cell, first_mark(first, cell), &mut touches)?;
     }
     Ok(touches)
 }
 
-/// Places the first marks of a frame: seed(0) in cell 0, nothing in cells 1 to `last`.
-pub(crate) fn place<B: Board>(board: &mut B, last: u16) -> Result<u64, Stop>
-    ensures kept { B.keeps.same board.old board.new }
-    ensures done { IfOk result (Moves B.make (B.cells board.old) (B.meter board.old) (placing last) (placed (B.M.Mark.kind.seed 0) B.M.Mark.kind.nothing last (B.cells board.old)) (B.cells board.new) (B.meter board.new)) }
-    ensures enough { Enough B.make (length (B.cells board.old)) (B.meter board.old) (placing last) → is_ok result ≡ true }
+/// Places the first marks of a frame: seed(0) in cell 0, nothing in the others.
+pub(crate) fn place<B: Board>(board: &mut B, rule: &Rule) -> Result<u64, Stop>
+    ensures { Movement B.make B.keeps B.cells B.meter board.old (placing_of rule.now) (placed_by B.M.Mark.kind rule.now (B.cells board.old)) board.new result }
 {
-    fill(board, last, B::M::seed(0))
+    fill(board, rule, B::M::seed(0))
 }
 
-/// Wipes cells 0 to `last`: writes nothing to each.
-pub(crate) fn wipe<B: Board>(board: &mut B, last: u16) -> Result<u64, Stop>
-    ensures kept { B.keeps.same board.old board.new }
-    ensures done { IfOk result (Moves B.make (B.cells board.old) (B.meter board.old) (wiping last) (wiped B.M.Mark.kind.nothing last (B.cells board.old)) (B.cells board.new) (B.meter board.new)) }
-    ensures enough { Enough B.make (length (B.cells board.old)) (B.meter board.old) (wiping last) → is_ok result ≡ true }
+/// Wipes a frame's cells: writes nothing to each.
+pub(crate) fn wipe<B: Board>(board: &mut B, rule: &Rule) -> Result<u64, Stop>
+    ensures { Movement B.make B.keeps B.cells B.meter board.old (wiping_of rule.now) (wiped_by B.M.Mark.kind rule.now (B.cells board.old)) board.new result }
 {
-    fill(board, last, B::M::nothing())
+    fill(board, rule, B::M::nothing())
 }
 
 /// The cell that a scan at `position` reads for a predecessor: its own if it is absent.
@@ -91,22 +78,17 @@ fn read_source<B: Board>(
     touches: &mut u64,
 ) -> Result<B::M, Stop>
     requires { touches.old < 2 ^ 32 }
-    ensures kept { B.keeps.same board.old board.new }
-    ensures done { Reads B.make (B.cells board.old) (B.meter board.old) (source predecessor position) (B.cells board.new) (B.meter board.new) result }
-    ensures counted { OnOk result (touches.new ≡ touches.old + 1) }
+    ensures { ReadOf B.make B.keeps B.cells B.meter board.old (source predecessor position) board.new result touches.old touches.new }
 {
     read(board, source(predecessor, position), touches)
 }
 
 /// Joins to each cell from 0 to the last, in that order, its predecessors' marks.
 fn scan<B: Board>(board: &mut B, rule: &Rule) -> Result<u64, Stop>
-    requires { rule.now.last < most_units + 3 }
-    ensures kept { B.keeps.same board.old board.new }
-    ensures done { IfOk result (Moves B.make (B.cells board.old) (B.meter board.old) (scanning (first_of rule.now.words) (second_of rule.now.words) rule.now.last) (scanned B.M.Mark.kind.join B.M.Mark.kind.nothing (first_of rule.now.words) (second_of rule.now.words) rule.now.last (B.cells board.old)) (B.cells board.new) (B.meter board.new)) }
-    ensures enough { Enough B.make (length (B.cells board.old)) (B.meter board.old) (scanning (first_of rule.now.words) (second_of rule.now.words) rule.now.last) → is_ok result ≡ true }
+    ensures { Movement B.make B.keeps B.cells B.meter board.old (scanning_of rule.now) (scanned_by B.M.Mark.kind rule.now (B.cells board.old)) board.new result }
 {
     let mut touches = 0;
-    for j in 0..rule.last() + 1 {
+    for j in 0..=rule.last() {
         let (first, second) = rule.predecessors(j);
         let own = read(board, u64::from(j), &mut touches)?;
         let before = read_source(board, first, j, &mut touches)?;
@@ -126,13 +108,10 @@ const SCANS: u64 = 2;
 
 /// Scans the cells twice, one scan after the other.
 pub(crate) fn settle<B: Board>(board: &mut B, rule: &Rule) -> Result<u64, Stop>
-    requires { rule.now.last < most_units + 3 }
-    ensures kept { B.keeps.same board.old board.new }
-    ensures done { IfOk result (Moves B.make (B.cells board.old) (B.meter board.old) (settling (first_of rule.now.words) (second_of rule.now.words) rule.now.last) (settled B.M.Mark.kind.join B.M.Mark.kind.nothing (first_of rule.now.words) (second_of rule.now.words) rule.now.last (B.cells board.old)) (B.cells board.new) (B.meter board.new)) }
-    ensures enough { Enough B.make (length (B.cells board.old)) (B.meter board.old) (settling (first_of rule.now.words) (second_of rule.now.words) rule.now.last) → is_ok result ≡ true }
+    ensures { Movement B.make B.keeps B.cells B.meter board.old (settling_of rule.now) (settled_by B.M.Mark.kind rule.now (B.cells board.old)) board.new result }
 {
     let mut touches = 0;
-    for i in 0..SCANS {
+    for _ in 0..SCANS {
         touches += scan(board, rule)?;
     }
     Ok(touches)
@@ -154,10 +133,7 @@ fn fresh<M: Mark>(fed: u64) -> M
 
 /// Carries the marks over a byte, from the last cell down to cell 1, and puts seed(bytes fed so far) into cell 0.
 pub(crate) fn step<B: Board>(board: &mut B, rule: &Rule, byte: u8, fed: u64) -> Result<u64, Stop>
-    requires { rule.now.last < most_units + 3 }
-    ensures kept { B.keeps.same board.old board.new }
-    ensures done { IfOk result (Moves B.make (B.cells board.old) (B.meter board.old) (stepping rule.now.last) (stepped B.M.Mark.kind.nothing (takes_at rule.now.words byte) (B.M.Mark.kind.seed fed) rule.now.last (B.cells board.old)) (B.cells board.new) (B.meter board.new)) }
-    ensures enough { Enough B.make (length (B.cells board.old)) (B.meter board.old) (stepping rule.now.last) → is_ok result ≡ true }
+    ensures { Movement B.make B.keeps B.cells B.meter board.old (stepping_of rule.now) (stepped_by B.M.Mark.kind rule.now byte fed (B.cells board.old)) board.new result }
 {
     let mut touches = 0;
     for j in (0..rule.last()).rev() {

@@ -7,13 +7,13 @@ use Rattle.std.proofs.lemmas.Result.{err_from_is_err_and}
 pub loop-cell-init : goal.loop-cell-init
 loop-cell-init g c = (
   g.B.Board.keeps.still _,
-  fill_none g.B.Board.make (first_mark c.args.first g.B.M.Mark.kind.nothing) c.args.last (g.B.Board.cells c.args.board.now) (g.B.Board.meter c.args.board.now),
+  fill_none g.B.Board.make (first_mark c.args.first g.B.M.Mark.kind.nothing) c.args.rule.now.last (g.B.Board.cells c.args.board.now) (g.B.Board.meter c.args.board.now),
 )
 
 pub write-requires : goal.write-requires
 write-requires g c =
     let n = fill_count g.B.Board.make _ _ _ _ c.loop-cell.invariant.1 in
-    let h = c.ranges.last.fits in
+    let h = c.args.rule.now.fits in
     omega arith
 
 pub loop-cell-preserved : goal.loop-cell-preserved
@@ -21,6 +21,13 @@ loop-cell-preserved g c = (
   g.B.Board.keeps.on _ _ _ c.loop-cell.invariant.0 c.in_ok-write.ensures.kept,
   fill_more g.B.Board.make _ _ _ _ _ _ _ c.loop-cell.invariant.1 (omega arith) c.in_ok-write.ensures.done c.first_mark.ensures c.in_ok-write.ensures.counted refl,
 )
+
+pub returns-in_ok-write : goal.returns-in_ok-write
+returns-in_ok-write g c = let e = c.from-cell-end.ensures in let h = c.last.ensures in record {
+  kept = g.B.Board.keeps.on _ _ _ c.loop-cell.invariant.0 c.in_ok-write.ensures.kept;
+  done = fill_all g.B.Board.make _ _ _ _ (fill_more g.B.Board.make _ _ _ _ _ _ _ c.loop-cell.invariant.1 (omega arith) c.in_ok-write.ensures.done c.first_mark.ensures c.in_ok-write.ensures.counted refl) (omega arith);
+  enough = λ _. refl;
+}
 
 pub returns : goal.returns
 returns g c = record {

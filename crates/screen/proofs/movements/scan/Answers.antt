@@ -16,16 +16,16 @@ loop-j-init g c =
     )
 
 pub read-requires : goal.read-requires
-read-requires g c = let n = scan_count g.B.Board.make _ _ _ _ _ _ _ c.loop-j.invariant.1 in let h = c.requires in omega arith
+read-requires g c = let n = scan_count g.B.Board.make _ _ _ _ _ _ _ c.loop-j.invariant.1 in let h = c.args.rule.now.fits in omega arith
 
 pub read_source-requires : goal.read_source-requires
 read_source-requires g c =
-    let n = scan_count g.B.Board.make _ _ _ _ _ _ _ c.loop-j.invariant.1 in let h = c.requires in let a = c.in_ok-own.ensures.counted in omega arith
+    let n = scan_count g.B.Board.make _ _ _ _ _ _ _ c.loop-j.invariant.1 in let h = c.args.rule.now.fits in let a = c.in_ok-own.ensures.counted in omega arith
 
 pub read_source-requires-in-loop-j : goal.read_source-requires-in-loop-j
 read_source-requires-in-loop-j g c =
     let n = scan_count g.B.Board.make _ _ _ _ _ _ _ c.loop-j.invariant.1 in
-    let h = c.requires in
+    let h = c.args.rule.now.fits in
     let a = c.in_ok-own.ensures.counted in
     let b = c.in_ok-before.ensures.counted in
     omega arith
@@ -33,7 +33,7 @@ read_source-requires-in-loop-j g c =
 pub write-requires : goal.write-requires
 write-requires g c =
     let n = scan_count g.B.Board.make _ _ _ _ _ _ _ c.loop-j.invariant.1 in
-    let h = c.requires in
+    let h = c.args.rule.now.fits in
     let a = c.in_ok-own.ensures.counted in
     let b = c.in_ok-before.ensures.counted in
     let d = c.in_ok-other.ensures.counted in
@@ -54,6 +54,24 @@ loop-j-preserved g c =
       on _ _ _ c.loop-j.invariant.0 (on _ _ _ c.in_ok-own.ensures.kept (on _ _ _ c.in_ok-before.ensures.kept (on _ _ _ c.in_ok-other.ensures.kept c.in_ok-write.ensures.kept))),
       scan_more make _ _ _ _ _ _ _ start _ own c.in_ok-own.ensures.counted _ one c.in_ok-before.ensures.counted _ two c.in_ok-other.ensures.counted _ _ _ put mark c.in_ok-write.ensures.counted refl,
     )
+
+pub returns-in_ok-write : goal.returns-in_ok-write
+returns-in_ok-write g c =
+    let make = g.B.Board.make in
+    let on = g.B.Board.keeps.on in
+    let j = c.loop-j.j in
+    let h = c.last-j-end.ensures in
+    let start = before make _ _ _ _ _ _ _ c.loop-j.invariant.1 (omega arith) in
+    let own = reads_at make c.from.ensures c.in_ok-own.ensures.done in
+    let one = reads_at make (ap (λ z. source z j) c.predecessors-first.ensures.0) c.in_ok-before.ensures.done in
+    let two = reads_at make (ap (λ z. source z j) c.predecessors-first.ensures.1) c.in_ok-other.ensures.done in
+    let put = writes_at make _ c.from-in-loop-j.ensures _ c.in_ok-write.ensures.done in
+    let mark = c.join-in-loop-j.ensures ∙ ap (λ z. g.B.M.Mark.kind.join z c.in_ok-other.other) c.join.ensures in
+    record {
+      kept = on _ _ _ c.loop-j.invariant.0 (on _ _ _ c.in_ok-own.ensures.kept (on _ _ _ c.in_ok-before.ensures.kept (on _ _ _ c.in_ok-other.ensures.kept c.in_ok-write.ensures.kept)));
+      done = scan_all make _ _ _ _ _ _ _ (scan_more make _ _ _ _ _ _ _ start _ own c.in_ok-own.ensures.counted _ one c.in_ok-before.ensures.counted _ two c.in_ok-other.ensures.counted _ _ _ put mark c.in_ok-write.ensures.counted refl) (omega arith);
+      enough = λ _. refl;
+    }
 
 pub returns : goal.returns
 returns g c =

@@ -13,14 +13,14 @@ loop-j-init g c =
     )
 
 pub read-requires : goal.read-requires
-read-requires g c = let n = step_count g.B.Board.make _ _ _ _ _ c.loop-j.invariant.1 in let h = c.requires in omega arith
+read-requires g c = let n = step_count g.B.Board.make _ _ _ _ _ c.loop-j.invariant.1 in let h = c.args.rule.now.fits in omega arith
 
 pub write-requires : goal.write-requires
 write-requires g c =
-    let n = step_count g.B.Board.make _ _ _ _ _ c.loop-j.invariant.1 in let h = c.requires in let a = c.in_ok-mark.ensures.counted in omega arith
+    let n = step_count g.B.Board.make _ _ _ _ _ c.loop-j.invariant.1 in let h = c.args.rule.now.fits in let a = c.in_ok-mark.ensures.counted in omega arith
 
 pub write-requires-2 : goal.write-requires-2
-write-requires-2 g c = let n = step_count g.B.Board.make _ _ _ _ _ c.loop-j.invariant.1 in let h = c.requires in omega arith
+write-requires-2 g c = let n = step_count g.B.Board.make _ _ _ _ _ c.loop-j.invariant.1 in let h = c.args.rule.now.fits in omega arith
 
 pub loop-j-preserved : goal.loop-j-preserved
 loop-j-preserved g c =
