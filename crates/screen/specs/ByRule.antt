@@ -34,25 +34,29 @@ module _ (rule : Rule) where
   finishing_of = finishing (first_of rule.words) (second_of rule.words) rule.last
 
 -- The cells afterwards, from the cells before.
-module _ {M : Type 0} (kind : Kind M) (rule : Rule) where
-  abbrev pub placed_by : List M → List M
-  placed_by cells = placed (kind.seed 0) kind.nothing rule.last cells
+module _ {M : Type 0} (kind : Kind M) where
+  -- where cell 0 gets this mark
+  abbrev pub placed_with : M → Rule → List M → List M
+  placed_with first rule cells = placed first kind.nothing rule.last cells
 
-  abbrev pub wiped_by : List M → List M
-  wiped_by cells = wiped kind.nothing rule.last cells
+  abbrev pub placed_by : Rule → List M → List M
+  placed_by rule cells = placed_with (kind.seed 0) rule cells
 
-  abbrev pub scanned_by : List M → List M
-  scanned_by cells = scanned kind.join kind.nothing (first_of rule.words) (second_of rule.words) rule.last cells
+  abbrev pub wiped_by : Rule → List M → List M
+  wiped_by rule cells = wiped kind.nothing rule.last cells
 
-  abbrev pub settled_by : List M → List M
-  settled_by cells = settled kind.join kind.nothing (first_of rule.words) (second_of rule.words) rule.last cells
+  abbrev pub scanned_by : Rule → List M → List M
+  scanned_by rule cells = scanned kind.join kind.nothing (first_of rule.words) (second_of rule.words) rule.last cells
 
-  abbrev pub stepped_by : ℕ → ℕ → List M → List M
-  stepped_by byte i cells = stepped kind.nothing (takes_at rule.words byte) (kind.seed i) rule.last cells
+  abbrev pub settled_by : Rule → List M → List M
+  settled_by rule cells = settled kind.join kind.nothing (first_of rule.words) (second_of rule.words) rule.last cells
 
-  abbrev pub begun_by : List M → List M
-  begun_by cells = begun kind (first_of rule.words) (second_of rule.words) (takes_at rule.words) rule.last cells
+  abbrev pub stepped_by : ℕ → ℕ → Rule → List M → List M
+  stepped_by byte i rule cells = stepped kind.nothing (takes_at rule.words byte) (kind.seed i) rule.last cells
+
+  abbrev pub begun_by : Rule → List M → List M
+  begun_by rule cells = begun kind (first_of rule.words) (second_of rule.words) (takes_at rule.words) rule.last cells
 
   -- once the i-th byte of a frame is fed
-  abbrev pub fed_by : ℕ → ℕ → List M → List M
-  fed_by byte i cells = fed kind (first_of rule.words) (second_of rule.words) (takes_at rule.words) rule.last i byte cells
+  abbrev pub fed_by : ℕ → ℕ → Rule → List M → List M
+  fed_by byte i rule cells = fed kind (first_of rule.words) (second_of rule.words) (takes_at rule.words) rule.last i byte cells

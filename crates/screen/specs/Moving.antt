@@ -1,6 +1,8 @@
 -- A movement under way on a board.
-use Rattle.std.specs.Prelude.{◌≡◌, ℕ, ◌+◌, ◌<◌, ◌≤◌, true, List, [], ◌∷◌, length, is_ok, IfOk, OnOk, Ok, Err, Result, slice_index_or}
-use Rattle.board.specs.Boards.{Keeps, Make, Reads, Touch, Writes, cell_of, moved}
+use Rattle.std.specs.Prelude.{◌≡◌, ℕ, ◌+◌, ◌<◌, ◌≤◌, List, [], ◌∷◌, length, Ok, Err, Result, slice_index_or}
+use Rattle.board.specs.Boards.{Make, Touch, cell_of, moved}
+use Rattle.board.specs.declared.Board.{Ghosts}
+use Rattle.rule.specs.declared.table.Rule.{Rule}
 use Rattle.stops.specs.Stops.{stop_number}
 use Rattle.stops.specs.declared.Stop.{Stop}
 
@@ -27,11 +29,6 @@ pub data Lacks (size allowance last touches : ℕ) : ℕ → Type 0 where
   a_cell : size ≤ last → Lacks size allowance last touches 18
   allowance : last < size → allowance < touches → Lacks size allowance last touches 19
 
--- a board of this size and allowance is admitted where it has both, and else it lacks something
-abbrev pub Admits : (size allowed last touches : ℕ) → Result (Unit {0}) Stop → Type 0
-Admits size allowed last touches (Ok done) = (last < size) × (touches ≤ allowed)
-Admits size allowed last touches (Err s) = Lacks size allowed last touches (stop_number s)
-
 module _ {M X : Type 0} (make : Make X) (cells : List M) (meter : X) (last : ℕ) (schedule : List Touch) (after : List M) (cells' : List M) (meter' : X) where
   -- the board lacks something for the schedule, and nothing has changed
   pub record NotBegun (number : ℕ) : Type 0 where
@@ -50,23 +47,19 @@ module _ {M X : Type 0} (make : Make X) (cells : List M) (meter : X) (last : ℕ
   ReadOut (Ok r) = (r.0 ≡ slice_index_or cells last r.0) × Enough make (length cells) meter schedule × Moves make cells meter schedule after cells' meter' r.1
   ReadOut (Err s) = NotBegun (stop_number s)
 
--- Boards of one make, with what they keep, their cells and their meters.
-module _ {S M X : Type 0} (make : Make X) (keeps : Keeps S) (cells : S → List M) (meter : S → X) where
-  -- A movement touches the board by this schedule and leaves these cells, where it answers the touches that it made. What a board
-  -- keeps it keeps in any case, and a board that has enough for the schedule does not cut it short.
-  pub record Movement (old : S) (schedule : List Touch) (after : List M) (new : S) (result : Result ℕ Stop) : Type 0 where
-    pub kept : keeps.same old new
-    pub done : IfOk result (Moves make (cells old) (meter old) schedule after (cells new) (meter new))
-    pub enough : Enough make (length (cells old)) (meter old) schedule → is_ok result ≡ true
+-- a board is admitted where it has a cell for each position of a rule and allows so many touches, and else it lacks something
+abbrev pub Admits : {B M : Type 0} → Ghosts B M → B → Rule → ℕ → Result (Unit {0}) Stop → Type 0
+Admits board b rule touches (Ok done) = (rule.last < length (board.cells b)) × (touches ≤ board.make.allowed (length (board.cells b)) (board.meter b))
+Admits board b rule touches (Err s) = Lacks (length (board.cells b)) (board.make.allowed (length (board.cells b)) (board.meter b)) rule.last touches (stop_number s)
 
-  -- cell i is read, and the touch counted
-  pub record ReadOf (old : S) (i : ℕ) (new : S) (result : Result M Stop) (touches touches' : ℕ) : Type 0 where
-    pub kept : keeps.same old new
-    pub done : Reads make (cells old) (meter old) i (cells new) (meter new) result
-    pub counted : OnOk result (touches' ≡ touches + 1)
+-- What a board keeps it keeps in any case.
+module _ {B M : Type 0} (board : Ghosts B M) (old : B) (rule : Rule) (schedule : Rule → List Touch) (after : Rule → List M → List M) (new : B) where
+  -- a call that is carried out by the rule's schedule, and makes these cells of those before, or is not begun
+  pub record Call (result : Result ℕ Stop) : Type 0 where
+    pub kept : board.keeps.same old new
+    pub done : CarriedOut board.make (board.cells old) (board.meter old) rule.last (schedule rule) (after rule (board.cells old)) (board.cells new) (board.meter new) result
 
-  -- the mark m is written to cell i, and the touch counted
-  pub record WriteOf (old : S) (i : ℕ) (m : M) (new : S) (result : Result (Unit {0}) Stop) (touches touches' : ℕ) : Type 0 where
-    pub kept : keeps.same old new
-    pub done : Writes make (cells old) (meter old) i m (cells new) (meter new) result
-    pub counted : OnOk result (touches' ≡ touches + 1)
+  -- the same where the mark of the last position is answered too
+  pub record ReadingCall (result : Result (M × ℕ) Stop) : Type 0 where
+    pub kept : board.keeps.same old new
+    pub done : ReadOut board.make (board.cells old) (board.meter old) rule.last (schedule rule) (after rule (board.cells old)) (board.cells new) (board.meter new) result

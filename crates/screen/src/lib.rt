@@ -4,12 +4,11 @@
 
 mod movements;
 
-ghost use Rattle.std.specs.Prelude.{length};
 ghost use Rattle.screen.specs.ByRule.{beginning_of, begun_by, fed_by, feeding_of, finishing_of, wiped_by, wiping_of};
-ghost use Rattle.screen.specs.Moving.{Admits, CarriedOut, ReadOut};
+ghost use Rattle.screen.specs.Moving.{Admits, Call, ReadingCall};
 ghost use Rattle.screen.specs.Schedules.{ADroppedFrameTakesSoManyTouches, AFrameTakesSoManyTouches};
 
-use crate::movements::{place, read, settle, step, wipe};
+use crate::movements::Mover;
 use board::Board;
 use rule::Rule;
 use stops::Stop;
@@ -26,7 +25,7 @@ pub fn a_dropped_frame_takes_so_many_touches()
 
 /// Whether a board has a cell for each position of a rule, and allows so many touches: else stop 18 or 19.
 fn admit<B: Board>(board: &B, rule: &Rule, touches: u64) -> Result<(), Stop>
-    ensures { Admits (length (B.cells board.now)) (B.make.allowed (length (B.cells board.now)) (B.meter board.now)) rule.now.last touches result }
+    ensures { Admits B.Board board.now rule.now touches result }
 {
     if u64::from(rule.last()) >= board.size() {
         return Err(Stop::NoCell);
@@ -39,44 +38,60 @@ fn admit<B: Board>(board: &B, rule: &Rule, touches: u64) -> Result<(), Stop>
 
 /// Places the first marks of a frame and scans twice; answers the touches made.
 pub fn begin_cells<B: Board>(board: &mut B, rule: &Rule) -> Result<u64, Stop>
-    ensures kept { B.keeps.same board.old board.new }
-    ensures done { CarriedOut B.make (B.cells board.old) (B.meter board.old) rule.now.last (beginning_of rule.now) (begun_by B.M.Mark.kind rule.now (B.cells board.old)) (B.cells board.new) (B.meter board.new) result }
+    ensures { Call B.Board board.old rule.now beginning_of (begun_by B.M.Mark.kind) board.new result }
 {
     admit(board, rule, 9 * u64::from(rule.last()) + 9)?;
-    let placed = place(board, rule)?;
-    let scanned = settle(board, rule)?;
-    Ok(placed + scanned)
+    let mut mover = Mover {
+        board,
+        rule,
+        touches: 0,
+    };
+    mover.place()?;
+    mover.settle()?;
+    Ok(mover.touches)
 }
 
 /// Carries the marks over a byte, the frame's `fed`-th, and scans twice; answers the touches made.
 pub fn feed_cells<B: Board>(board: &mut B, rule: &Rule, byte: u8, fed: u64) -> Result<u64, Stop>
-    ensures kept { B.keeps.same board.old board.new }
-    ensures done { CarriedOut B.make (B.cells board.old) (B.meter board.old) rule.now.last (feeding_of rule.now) (fed_by B.M.Mark.kind rule.now byte fed (B.cells board.old)) (B.cells board.new) (B.meter board.new) result }
+    ensures { Call B.Board board.old rule.now feeding_of (fed_by B.M.Mark.kind byte fed) board.new result }
 {
     admit(board, rule, 10 * u64::from(rule.last()) + 9)?;
-    let stepped = step(board, rule, byte, fed)?;
-    let scanned = settle(board, rule)?;
-    Ok(stepped + scanned)
+    let mut mover = Mover {
+        board,
+        rule,
+        touches: 0,
+    };
+    mover.step(byte, fed)?;
+    mover.settle()?;
+    Ok(mover.touches)
 }
 
 /// Wipes a frame's cells; answers the touches made.
 pub fn wipe_cells<B: Board>(board: &mut B, rule: &Rule) -> Result<u64, Stop>
-    ensures kept { B.keeps.same board.old board.new }
-    ensures done { CarriedOut B.make (B.cells board.old) (B.meter board.old) rule.now.last (wiping_of rule.now) (wiped_by B.M.Mark.kind rule.now (B.cells board.old)) (B.cells board.new) (B.meter board.new) result }
+    ensures { Call B.Board board.old rule.now wiping_of (wiped_by B.M.Mark.kind) board.new result }
 {
     admit(board, rule, u64::from(rule.last()) + 1)?;
-    wipe(board, rule)
+    let mut mover = Mover {
+        board,
+        rule,
+        touches: 0,
+    };
+    mover.wipe()?;
+    Ok(mover.touches)
 }
 
 /// Reads the mark at the last position, and wipes a frame's cells; answers the mark and the touches made.
 pub fn finish_cells<B: Board>(board: &mut B, rule: &Rule) -> Result<(B::M, u64), Stop>
-    ensures kept { B.keeps.same board.old board.new }
-    ensures done { ReadOut B.make (B.cells board.old) (B.meter board.old) rule.now.last (finishing_of rule.now) (wiped_by B.M.Mark.kind rule.now (B.cells board.old)) (B.cells board.new) (B.meter board.new) result }
+    ensures { ReadingCall B.Board board.old rule.now finishing_of (wiped_by B.M.Mark.kind) board.new result }
 {
     let last = u64::from(rule.last());
     admit(board, rule, last + 2)?;
-    let mut touches = 0;
-    let mark = read(board, last, &mut touches)?;
-    let wiped = wipe(board, rule)?;
-    Ok((mark, touches + wiped))
+    let mut mover = Mover {
+        board,
+        rule,
+        touches: 0,
+    };
+    let mark = mover.read(last)?;
+    mover.wipe()?;
+    Ok((mark, mover.touches))
 }

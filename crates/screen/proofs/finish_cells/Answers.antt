@@ -1,9 +1,8 @@
-use Rattle.std.proofs.Common.{suc, length, ◌∙◌, arith}
+use Rattle.std.proofs.Common.{length, refl, ◌∙◌, arith, rules}
 use Rattle.std.proofs.lemmas.Result.{err_from_is_err_and}
-use Rattle.screen.proofs.Lengths.{length_writes}
-use Rattle.screen.proofs.Wholes.{enough_finish, finish_all, finish_enough, finish_first, finish_length, finish_mark, left_out, never}
-use Rattle.screen.proofs.finish_cells.Goals as goal
+use Rattle.screen.proofs.Wholes.{carried_with, enough_finish, finish_cut, finish_length, finish_mark, finish_on, left_out, never}
 use Rattle.screen.proofs.finish_cells.Given.{Over}
+use Rattle.screen.proofs.finish_cells.Goals as goal
 use Rattle.screen.proofs.finish_cells.Goals.{In_ok-admit}
 use Rattle.screen.specs.ByRule.{finishing_of}
 use Rattle.screen.specs.Moving.{Enough}
@@ -23,41 +22,15 @@ returns-in_err-admit g c =
 
 pub returns-in_err-mark : goal.returns-in_err-mark
 returns-in_err-mark g c =
-    let p = err_from_is_err_and c.from_residual-in_err-mark.result c.from_residual-in_err-mark.ensures.1 in
-    rw p.1
-    (record {
-      kept = c.in_err-mark.ensures.kept;
-      done = absurd (finish_first g.B.Board.make _ _ c.args.rule.now _ (c.from-last.ensures ∙ c.last.ensures) c.in_err-mark.ensures.done.0 (enough g (goal.at.returns-in_err-mark g c).In_ok-admit));
-    })
+    never g.B.Board (enough g (goal.at.returns-in_err-mark g c).In_ok-admit) (finish_cut g.B.Board g.B.M.Mark.kind _ (c.from-last.ensures ∙ c.last.ensures) c.in_err-mark.ensures)
 
-pub returns-in_err-wiped : goal.returns-in_err-wiped
-returns-in_err-wiped g c =
-    let p = err_from_is_err_and c.from_residual-in_err-wiped.result c.from_residual-in_err-wiped.ensures.1 in
-    rw p.1
-    (record {
-      kept = g.B.Board.keeps.on _ _ _ c.in_ok-mark.ensures.kept c.in_err-wiped.ensures.kept;
-      done =
-          never
-          (c.in_err-wiped.ensures.enough
-          (finish_enough g.B.Board.make g.B.M.Mark.kind _ _ c.args.rule.now _ _ _ (c.from-last.ensures ∙ c.last.ensures) c.in_ok-mark.ensures.done c.in_ok-mark.ensures.counted (enough g (goal.at.returns-in_err-wiped g c).In_ok-admit)));
-    })
-
-pub overflow_add-result : goal.overflow_add-result
-overflow_add-result g c =
-    let s = c.in_ok-mark.ensures.counted in
-    let t = c.in_ok-wiped.ensures.done.counted in
-    let l = length_writes (suc c.args.rule.now.last) 0 in
-    let h = c.args.rule.now.fits in
-    omega arith
+pub returns-in_err-wipe : goal.returns-in_err-wipe
+returns-in_err-wipe g c =
+    never g.B.Board (enough g (goal.at.returns-in_err-wipe g c).In_ok-admit)
+    (finish_on g.B.Board g.B.M.Mark.kind _ (c.from-last.ensures ∙ c.last.ensures) c.in_ok-mark.ensures c.in_err-wipe.ensures)
 
 pub returns : goal.returns
 returns g c =
-    let i = c.from-last.ensures ∙ c.last.ensures in
-    record {
-      kept = g.B.Board.keeps.on _ _ _ c.in_ok-mark.ensures.kept c.in_ok-wiped.ensures.kept;
-      done = (
-        finish_mark g.B.Board.make g.B.M.Mark.kind _ _ c.args.rule.now _ _ _ i c.in_ok-mark.ensures.done c.in_ok-mark.ensures.counted,
-        enough g (goal.at.returns g c).In_ok-admit,
-        finish_all g.B.Board.make g.B.M.Mark.kind _ _ c.args.rule.now _ _ _ i c.in_ok-mark.ensures.done c.in_ok-mark.ensures.counted _ c.in_ok-wiped.ensures.done,
-      );
-    }
+    let n = c.from-last.ensures ∙ c.last.ensures in
+    carried_with g.B.Board _ _ (enough g (goal.at.returns g c).In_ok-admit) refl (finish_on g.B.Board g.B.M.Mark.kind _ n c.in_ok-mark.ensures c.in_ok-wipe.ensures) (search rules)
+    (finish_mark g.B.Board g.B.M.Mark.kind _ n c.in_ok-mark.ensures)

@@ -1,8 +1,16 @@
-use Rattle.std.proofs.Common.{suc, arith}
+use Rattle.std.proofs.Common.{suc, length, refl, arith, rules}
 use Rattle.std.proofs.lemmas.Result.{err_from_is_err_and}
 use Rattle.screen.proofs.Lengths.{length_writes}
-use Rattle.screen.proofs.Wholes.{carried, enough_wipe, left_out}
+use Rattle.screen.proofs.Wholes.{carried, enough_wipe, left_out, never}
+use Rattle.screen.proofs.wipe_cells.Given.{Over}
 use Rattle.screen.proofs.wipe_cells.Goals as goal
+use Rattle.screen.proofs.wipe_cells.Goals.{In_ok-admit}
+use Rattle.screen.specs.ByRule.{wiping_of}
+use Rattle.screen.specs.Moving.{Enough}
+
+-- an admitted board has enough
+enough : (g : Over) (c : In_ok-admit g) → Enough g.B.Board.make (length (g.B.Board.cells c.args.board.now)) (g.B.Board.meter c.args.board.now) (wiping_of c.args.rule.now)
+enough g c = enough_wipe g.B.Board.make c.args.rule.now c.in_ok-admit.ensures.0 (let e = c.last.ensures in let f = c.from.ensures in let h = c.in_ok-admit.ensures.1 in omega arith)
 
 pub returns-in_err-admit : goal.returns-in_err-admit
 returns-in_err-admit g c =
@@ -13,10 +21,8 @@ returns-in_err-admit g c =
       done = left_out g.B.Board.make _ _ _ _ _ _ _ _ p.2 (let l = length_writes (suc c.args.rule.now.last) 0 in let e = c.last.ensures in let f = c.from.ensures in omega arith) c.in_err-admit.ensures;
     })
 
+pub returns-in_err-wipe : goal.returns-in_err-wipe
+returns-in_err-wipe g c = never g.B.Board (enough g (goal.at.returns-in_err-wipe g c).In_ok-admit) c.in_err-wipe.ensures
+
 pub returns : goal.returns
-returns g c = record {
-  kept = c.wipe.ensures.kept;
-  done =
-      carried g.B.Board.make _ _ _ _ _ _ _ c.wipe.result c.wipe.ensures.done c.wipe.ensures.enough
-      (enough_wipe g.B.Board.make c.args.rule.now c.in_ok-admit.ensures.0 (let e = c.last.ensures in let f = c.from.ensures in let h = c.in_ok-admit.ensures.1 in omega arith));
-}
+returns g c = carried g.B.Board _ _ (enough g (goal.at.returns g c).In_ok-admit) refl c.in_ok-wipe.ensures (search rules)
