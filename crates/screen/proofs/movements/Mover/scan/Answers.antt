@@ -1,4 +1,4 @@
-use Rattle.std.proofs.Common.{◌+◌, ap, ◌∙◌, arith}
+use Rattle.std.proofs.Common.{◌+◌, ◌^◌, ◌<◌, ap, ◌∙◌, arith}
 use Rattle.std.proofs.lemmas.Result.{err_from_is_err_and}
 use Rattle.method.specs.Cells.{source}
 use Rattle.screen.proofs.Scanning.{Before, Scanning, before, first_read, scan_all, scan_count, scan_more, scan_none, second_read, third_read}
@@ -10,35 +10,30 @@ use Rattle.screen.proofs.movements.Mover.scan.Goals.{In-loop-j, In_ok-write}
 pub loop-j-init : goal.loop-j-init
 loop-j-init g c = scan_none g.B.Board g.B.M.Mark.kind _ _
 
-pub read-requires : goal.read-requires
-read-requires g c =
+-- a count far from its end
+few : (g : Over) (c : In-loop-j g) → c.loop-j.self.touches + 3 < 2 ^ 32
+few g c =
     let n = scan_count g.B.Board g.B.M.Mark.kind _ _ c.loop-j.invariant in
     let h = c.args.self.now.rule.now.fits in
     let r = c.requires in
     omega arith
 
+pub read-requires : goal.read-requires
+read-requires g c = let f = few g (goal.at.read-requires g c).In-loop-j in omega arith
+
 pub read_source-requires : goal.read_source-requires
-read_source-requires g c =
-    let n = scan_count g.B.Board g.B.M.Mark.kind _ _ c.loop-j.invariant in
-    let h = c.args.self.now.rule.now.fits in
-    let r = c.requires in
-    let a = c.in_ok-own.ensures.counted in
-    omega arith
+read_source-requires g c = let f = few g (goal.at.read_source-requires g c).In-loop-j in let a = c.in_ok-own.ensures.counted in omega arith
 
 pub read_source-requires-in-loop-j : goal.read_source-requires-in-loop-j
 read_source-requires-in-loop-j g c =
-    let n = scan_count g.B.Board g.B.M.Mark.kind _ _ c.loop-j.invariant in
-    let h = c.args.self.now.rule.now.fits in
-    let r = c.requires in
+    let f = few g (goal.at.read_source-requires-in-loop-j g c).In-loop-j in
     let a = c.in_ok-own.ensures.counted in
     let b = c.in_ok-before.ensures.counted in
     omega arith
 
 pub write-requires : goal.write-requires
 write-requires g c =
-    let n = scan_count g.B.Board g.B.M.Mark.kind _ _ c.loop-j.invariant in
-    let h = c.args.self.now.rule.now.fits in
-    let r = c.requires in
+    let f = few g (goal.at.write-requires g c).In-loop-j in
     let a = c.in_ok-own.ensures.counted in
     let b = c.in_ok-before.ensures.counted in
     let d = c.in_ok-other.ensures.counted in

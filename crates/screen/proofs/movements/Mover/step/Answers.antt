@@ -1,35 +1,30 @@
-use Rattle.std.proofs.Common.{◌≡◌, suc, ◌+◌, ◌-◌, cond, refl, ap, ◌∙◌, arith}
+use Rattle.std.proofs.Common.{◌≡◌, suc, ◌+◌, ◌-◌, ◌^◌, ◌<◌, cond, refl, ap, ◌∙◌, arith}
 use Rattle.std.proofs.lemmas.Result.{err_from_is_err_and}
 use Rattle.screen.proofs.Stepping.{Stepping, at_next, step_count, step_ends, step_more, step_none, step_read, step_start}
 use Rattle.screen.proofs.Underway.{read_refused, write_refused}
 use Rattle.screen.proofs.movements.Mover.step.Given.{Over}
 use Rattle.screen.proofs.movements.Mover.step.Goals as goal
-use Rattle.screen.proofs.movements.Mover.step.Goals.{In-loop-j}
+use Rattle.screen.proofs.movements.Mover.step.Goals.{At-loop-j, In-loop-j}
 
 pub loop-j-init : goal.loop-j-init
 loop-j-init g c = step_none g.B.Board g.B.M.Mark.kind _ _ _ _ (omega arith)
 
-pub read-requires : goal.read-requires
-read-requires g c =
+-- a count far from its end
+few : (g : Over) (c : At-loop-j g) → c.loop-j.self.touches + 1 < 2 ^ 32
+few g c =
     let n = step_count g.B.Board g.B.M.Mark.kind _ _ _ c.loop-j.invariant in
     let h = c.args.self.now.rule.now.fits in
     let r = c.requires in
     omega arith
+
+pub read-requires : goal.read-requires
+read-requires g c = let f = few g (goal.at.read-requires g c).At-loop-j in omega arith
 
 pub write-requires : goal.write-requires
-write-requires g c =
-    let n = step_count g.B.Board g.B.M.Mark.kind _ _ _ c.loop-j.invariant in
-    let h = c.args.self.now.rule.now.fits in
-    let r = c.requires in
-    let a = c.in_ok-mark.ensures.counted in
-    omega arith
+write-requires g c = let f = few g (goal.at.write-requires g c).At-loop-j in let a = c.in_ok-mark.ensures.counted in omega arith
 
 pub write-requires-2 : goal.write-requires-2
-write-requires-2 g c =
-    let n = step_count g.B.Board g.B.M.Mark.kind _ _ _ c.loop-j.invariant in
-    let h = c.args.self.now.rule.now.fits in
-    let r = c.requires in
-    omega arith
+write-requires-2 g c = let f = few g (goal.at.write-requires-2 g c).At-loop-j in omega arith
 
 -- right before the cell
 start : (g : Over) (c : In-loop-j g) → Stepping g.B.Board g.B.M.Mark.kind c.args.self.now.rule.now c.args.byte c.args.self.now (suc (c.loop-j.j - 1)) c.loop-j.self
