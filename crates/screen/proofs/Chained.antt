@@ -1,9 +1,9 @@
 -- One movement after another.
-use Rattle.std.proofs.Common.{◌≡◌, ℕ, ◌+◌, List, [], ◌∷◌, ◌++◌, length, Ok, Err, Result, sym, refl, ap, ◌∙◌, subst, arith, length-append}
+use Rattle.std.proofs.Common.{◌≡◌, ℕ, List, [], ◌∷◌, ◌++◌, length, Ok, Err, Result, sym, refl, ap, ◌∙◌, subst, arith, length-append}
 use Rattle.board.specs.Boards.{Make, Touch, moved, read}
 use Rattle.board.specs.declared.Board.{Ghosts}
 use Rattle.rule.specs.declared.table.Rule.{Rule}
-use Rattle.screen.proofs.Underway.{all_done, none_yet, on_on, on_still, read_on}
+use Rattle.screen.proofs.Underway.{all_done, none_yet, on_on, read_on}
 use Rattle.screen.specs.Movements.{Movement, ReadOf, SameBoard, cells_on, meter_on}
 use Rattle.screen.specs.Moving.{Below, Enough}
 use Rattle.screen.specs.declared.movements.Mover.{Mover}

@@ -1,5 +1,5 @@
 -- Scans made one after another.
-use Rattle.std.proofs.Common.{◌≡◌, ℕ, zero, suc, ◌+◌, ◌*◌, ◌<◌, ◌≤◌, List, ◌++◌, length, Ok, Err, Result, sym, refl, ◌∙◌, subst, arith}
+use Rattle.std.proofs.Common.{◌≡◌, ℕ, zero, suc, ◌+◌, ◌*◌, ◌<◌, ◌≤◌, List, length, Ok, Err, Result, refl, ◌∙◌, subst, arith}
 use Rattle.board.specs.Boards.{Touch}
 use Rattle.board.specs.declared.Board.{Ghosts}
 use Rattle.mark.specs.Marks.{Kind}

@@ -1,5 +1,5 @@
 -- A schedule under way on the mover's board: what is still to come of it leads where all of it leads from the start.
-use Rattle.std.proofs.Common.{◌≡◌, ℕ, ◌+◌, ◌≤◌, List, [], ◌∷◌, length, Ok, Err, sym, refl, ap, ◌∙◌, subst, arith, length-set}
+use Rattle.std.proofs.Common.{◌≡◌, ℕ, ◌+◌, ◌≤◌, List, [], ◌∷◌, length, Ok, Err, sym, refl, ap, ◌∙◌, arith, length-set}
 use Rattle.board.specs.Boards.{Refused, Touch, cell_of, moved, no_allowance, no_cell, read, write}
 use Rattle.board.specs.declared.Board.{Ghosts}
 use Rattle.screen.specs.Movements.{Movement, ReadOf, SameBoard, WriteOf, cells_on, meter_on}

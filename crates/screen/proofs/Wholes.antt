@@ -11,25 +11,31 @@ use Rattle.rule.specs.declared.table.Rule.{Rule}
 use Rattle.screen.proofs.Chained.{by_rule, chained, cut_first, one_read}
 use Rattle.screen.proofs.Fitting.{below_beginning, below_feeding, below_finishing, below_wiping, rule_inside}
 use Rattle.screen.proofs.Lengths.{length_beginning, length_feeding, length_writes}
-use Rattle.screen.proofs.Underway.{none_yet, read_refused}
 use Rattle.screen.specs.ByRule.{beginning_of, begun_by, fed_by, feeding_of, finishing_of, placed_by, placing_of, settled_by, settling_of, stepped_by, stepping_of, wiped_by, wiping_of}
 use Rattle.screen.specs.Movements.{Movement, ReadOf, RuledMovement, cells_on, meter_on}
-use Rattle.screen.specs.Moving.{Call, Enough, Lacks, Moves, NotBegun, ReadingCall}
+use Rattle.screen.specs.Moving.{Admits, Call, Enough, Lacks, Moves, NotBegun, ReadingCall}
 use Rattle.screen.specs.Schedules.{finishing}
 use Rattle.screen.specs.declared.movements.Mover.{Mover}
 use Rattle.stops.specs.Stops.{stop_number}
 use Rattle.stops.specs.declared.Stop.{Stop}
 
--- a board that lacks something for so many touches is left as it is
-pub left_out : {M X : Type 0} (make : Make X) (cells : List M) (meter : X) (n : ℕ) (schedule : List Touch) (after : List M) (touches : ℕ) (s r : Stop) → r ≡ s → length schedule ≡ touches
-    → Lacks (length cells) (make.allowed (length cells) meter) n touches (stop_number s) → NotBegun make cells meter n schedule after cells meter (stop_number r)
-left_out make cells meter n schedule after touches s r e l h = record {
-  lacks =
-      subst (λ z. Lacks (length cells) (make.allowed (length cells) meter) n (length schedule) (stop_number z)) (sym e)
-      (subst (λ z. Lacks (length cells) (make.allowed (length cells) meter) n z (stop_number s)) (sym l) h);
-  cells_same = refl;
-  meter_same = refl;
-}
+-- a board that is not admitted is left as it is
+module _ {B M : Type 0} (board : Ghosts B M) {b : B} {rule : Rule} (schedule : Rule → List Touch) (after : Rule → List M → List M) {touches : ℕ} {s r : Stop} (e : r ≡ s) (long : length (schedule rule) ≡ touches)
+    (h : Admits board b rule touches (Err s)) where
+  left_out : NotBegun board.make (board.cells b) (board.meter b) rule.last (schedule rule) (after rule (board.cells b)) (board.cells b) (board.meter b) (stop_number r)
+  left_out = record {
+    lacks =
+        subst (λ z. Lacks (length (board.cells b)) (board.make.allowed (length (board.cells b)) (board.meter b)) rule.last (length (schedule rule)) (stop_number z)) (sym e)
+        (subst (λ z. Lacks (length (board.cells b)) (board.make.allowed (length (board.cells b)) (board.meter b)) rule.last z (stop_number s)) (sym long) h);
+    cells_same = refl;
+    meter_same = refl;
+  }
+
+  pub call_left_out : Call board b rule schedule after b (Err r)
+  call_left_out = record { kept = board.keeps.still _; done = left_out }
+
+  pub reading_left_out : ReadingCall board b rule schedule after b (Err r)
+  reading_left_out = record { kept = board.keeps.still _; done = left_out }
 
 pub finish_length : (words : List ℕ) (n : ℕ) → length (finishing (first_of words) (second_of words) n) ≡ n + 2
 finish_length words n = let l = length_writes (suc n) 0 in omega arith
@@ -109,9 +115,6 @@ module _ {B M : Type 0} (board : Ghosts B M) where
 
     -- read, then wipe
     module _ {k : ℕ} (e : k ≡ rule.last) where
-      pub finish_cut : {m : Mover B} {s : Stop} → ReadOf board old k m (Err s) → Movement board old (finishing_of rule) (wiped_by kind rule) m (Err s)
-      finish_cut p = read_refused board (none_yet board old (finishing_of rule)) e p
-
       pub finish_on : {m new : Mover B} {r : Result (Unit {0}) Stop} {mark : M} → ReadOf board old k m (Ok mark)
           → Movement board m (wiping_of m.rule.now) (wiped_by kind m.rule.now) new r → Movement board old (finishing_of rule) (wiped_by kind rule) new r
       finish_on {r = r} p n =

@@ -2,7 +2,7 @@ use Rattle.std.proofs.Common.{suc, length, refl, arith, rules}
 use Rattle.std.proofs.lemmas.Result.{err_from_is_err_and}
 use Rattle.rule.specs.Words.{first_of, second_of}
 use Rattle.screen.proofs.Lengths.{length_beginning, length_writes}
-use Rattle.screen.proofs.Wholes.{begin_cut, begin_on, carried, enough_begin, left_out, never}
+use Rattle.screen.proofs.Wholes.{begin_cut, begin_on, carried, enough_begin, call_left_out, never}
 use Rattle.screen.proofs.begin_cells.Given.{Over}
 use Rattle.screen.proofs.begin_cells.Goals as goal
 use Rattle.screen.proofs.begin_cells.Goals.{In_ok-admit}
@@ -16,13 +16,10 @@ enough g c = enough_begin g.B.Board.make c.args.rule.now c.in_ok-admit.ensures.0
 pub returns-in_err-admit : goal.returns-in_err-admit
 returns-in_err-admit g c =
     let p = err_from_is_err_and c.from_residual.result c.from_residual.ensures.1 in
-    let words = c.args.rule.now.words in
-    rw p.1
-    (record {
-      kept = g.B.Board.keeps.still _;
-      done =
-          left_out g.B.Board.make _ _ _ _ _ _ _ _ p.2 (let l = length_beginning (first_of words) (second_of words) c.args.rule.now.last in let e = c.last.ensures in let f = c.from.ensures in omega arith) c.in_err-admit.ensures;
-    })
+    let l = length_beginning (first_of c.args.rule.now.words) (second_of c.args.rule.now.words) c.args.rule.now.last in
+    let e = c.last.ensures in
+    let f = c.from.ensures in
+    rw p.1 (call_left_out g.B.Board beginning_of _ p.2 (omega arith) c.in_err-admit.ensures)
 
 pub returns-in_err-place : goal.returns-in_err-place
 returns-in_err-place g c = never g.B.Board (enough g (goal.at.returns-in_err-place g c).In_ok-admit) (begin_cut g.B.Board g.B.M.Mark.kind _ c.in_err-place.ensures)

@@ -2,7 +2,7 @@ use Rattle.std.proofs.Common.{length, refl, arith, rules}
 use Rattle.std.proofs.lemmas.Result.{err_from_is_err_and}
 use Rattle.rule.specs.Words.{first_of, second_of}
 use Rattle.screen.proofs.Lengths.{length_feeding, length_stepping}
-use Rattle.screen.proofs.Wholes.{carried, enough_feed, feed_cut, feed_on, left_out, never}
+use Rattle.screen.proofs.Wholes.{carried, enough_feed, feed_cut, feed_on, call_left_out, never}
 use Rattle.screen.proofs.feed_cells.Given.{Over}
 use Rattle.screen.proofs.feed_cells.Goals as goal
 use Rattle.screen.proofs.feed_cells.Goals.{In_ok-admit}
@@ -16,13 +16,10 @@ enough g c = enough_feed g.B.Board.make c.args.rule.now c.in_ok-admit.ensures.0 
 pub returns-in_err-admit : goal.returns-in_err-admit
 returns-in_err-admit g c =
     let p = err_from_is_err_and c.from_residual.result c.from_residual.ensures.1 in
-    let words = c.args.rule.now.words in
-    rw p.1
-    (record {
-      kept = g.B.Board.keeps.still _;
-      done =
-          left_out g.B.Board.make _ _ _ _ _ _ _ _ p.2 (let l = length_feeding (first_of words) (second_of words) c.args.rule.now.last in let e = c.last.ensures in let f = c.from.ensures in omega arith) c.in_err-admit.ensures;
-    })
+    let l = length_feeding (first_of c.args.rule.now.words) (second_of c.args.rule.now.words) c.args.rule.now.last in
+    let e = c.last.ensures in
+    let f = c.from.ensures in
+    rw p.1 (call_left_out g.B.Board feeding_of _ p.2 (omega arith) c.in_err-admit.ensures)
 
 pub returns-in_err-step : goal.returns-in_err-step
 returns-in_err-step g c = never g.B.Board (enough g (goal.at.returns-in_err-step g c).In_ok-admit) (feed_cut g.B.Board g.B.M.Mark.kind _ _ _ c.in_err-step.ensures)

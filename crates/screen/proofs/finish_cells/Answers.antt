@@ -1,6 +1,6 @@
 use Rattle.std.proofs.Common.{length, refl, ◌∙◌, arith, rules}
 use Rattle.std.proofs.lemmas.Result.{err_from_is_err_and}
-use Rattle.screen.proofs.Wholes.{carried_with, enough_finish, finish_cut, finish_length, finish_mark, finish_on, left_out, never}
+use Rattle.screen.proofs.Wholes.{carried_with, enough_finish, finish_length, finish_mark, finish_on, reading_left_out, never}
 use Rattle.screen.proofs.finish_cells.Given.{Over}
 use Rattle.screen.proofs.finish_cells.Goals as goal
 use Rattle.screen.proofs.finish_cells.Goals.{In_ok-admit}
@@ -14,15 +14,10 @@ enough g c = enough_finish g.B.Board.make c.args.rule.now c.in_ok-admit.ensures.
 pub returns-in_err-admit : goal.returns-in_err-admit
 returns-in_err-admit g c =
     let p = err_from_is_err_and c.from_residual.result c.from_residual.ensures.1 in
-    rw p.1
-    (record {
-      kept = g.B.Board.keeps.still _;
-      done = left_out g.B.Board.make _ _ _ _ _ _ _ _ p.2 (let l = finish_length c.args.rule.now.words c.args.rule.now.last in let e = c.last.ensures in let f = c.from-last.ensures in omega arith) c.in_err-admit.ensures;
-    })
-
-pub returns-in_err-mark : goal.returns-in_err-mark
-returns-in_err-mark g c =
-    never g.B.Board (enough g (goal.at.returns-in_err-mark g c).In_ok-admit) (finish_cut g.B.Board g.B.M.Mark.kind _ (c.from-last.ensures ∙ c.last.ensures) c.in_err-mark.ensures)
+    let l = finish_length c.args.rule.now.words c.args.rule.now.last in
+    let e = c.last.ensures in
+    let f = c.from-last.ensures in
+    rw p.1 (reading_left_out g.B.Board finishing_of _ p.2 (omega arith) c.in_err-admit.ensures)
 
 pub returns-in_err-wipe : goal.returns-in_err-wipe
 returns-in_err-wipe g c =

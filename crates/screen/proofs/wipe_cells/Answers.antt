@@ -1,7 +1,7 @@
 use Rattle.std.proofs.Common.{suc, length, refl, arith, rules}
 use Rattle.std.proofs.lemmas.Result.{err_from_is_err_and}
 use Rattle.screen.proofs.Lengths.{length_writes}
-use Rattle.screen.proofs.Wholes.{carried, enough_wipe, left_out, never}
+use Rattle.screen.proofs.Wholes.{carried, enough_wipe, call_left_out, never}
 use Rattle.screen.proofs.wipe_cells.Given.{Over}
 use Rattle.screen.proofs.wipe_cells.Goals as goal
 use Rattle.screen.proofs.wipe_cells.Goals.{In_ok-admit}
@@ -15,11 +15,10 @@ enough g c = enough_wipe g.B.Board.make c.args.rule.now c.in_ok-admit.ensures.0 
 pub returns-in_err-admit : goal.returns-in_err-admit
 returns-in_err-admit g c =
     let p = err_from_is_err_and c.from_residual.result c.from_residual.ensures.1 in
-    rw p.1
-    (record {
-      kept = g.B.Board.keeps.still _;
-      done = left_out g.B.Board.make _ _ _ _ _ _ _ _ p.2 (let l = length_writes (suc c.args.rule.now.last) 0 in let e = c.last.ensures in let f = c.from.ensures in omega arith) c.in_err-admit.ensures;
-    })
+    let l = length_writes (suc c.args.rule.now.last) 0 in
+    let e = c.last.ensures in
+    let f = c.from.ensures in
+    rw p.1 (call_left_out g.B.Board wiping_of _ p.2 (omega arith) c.in_err-admit.ensures)
 
 pub returns-in_err-wipe : goal.returns-in_err-wipe
 returns-in_err-wipe g c = never g.B.Board (enough g (goal.at.returns-in_err-wipe g c).In_ok-admit) c.in_err-wipe.ensures
