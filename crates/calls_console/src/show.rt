@@ -20,7 +20,7 @@ pub(crate) fn show_bytes(rt: &HostRuntime, bytes: &[u8]) -> io::Result<()> {
 /// Prints a unit with its place and its position.
 fn show_unit(rt: &HostRuntime, placed: Placed, position: usize) -> io::Result<()> {
     let place = placed.place;
-    let kind = Kind::of_unit(placed.unit);
+    let kind = Kind::from(placed.unit);
     match placed.unit {
         PatternUnit::Plain(Letter::Byte(b)) => println!(rt;
             "  unit at {place}: {kind} {b:02X}, position {position}"
