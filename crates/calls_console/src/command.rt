@@ -5,10 +5,11 @@ ghost use Rattle.calls_console.specs.Lines.{Means, OfFrame, OfText, Reads};
 
 use crate::number::{number, renter_number};
 use lines::{Escaped, Parts, is_blank, is_comment};
+use std::error::Error;
 use std::fmt;
 
 /// What the console can be asked for.
-#[derive(Clone, Copy)]
+#[derive(Clone, Copy, Debug, PartialEq, Eq)]
 pub enum Command<'a> {
     /// To load the pattern.
     Load(&'a [u8]),
@@ -25,7 +26,7 @@ pub enum Command<'a> {
 }
 
 /// A line that asks for what the console does not know.
-#[derive(Clone, Copy)]
+#[derive(Clone, Copy, Debug, PartialEq, Eq)]
 pub struct Unknown<'a> {
     pub line: &'a [u8],
 }
@@ -42,6 +43,8 @@ impl fmt::Display for Unknown<'_> {
         f.write_str("  and lines that are blank or begin with #")
     }
 }
+
+impl Error for Unknown<'_> {}
 
 /// Reads `RENTER LENGTH`.
 fn frame(rest: &[u8]) -> Option<(u8, u64)>

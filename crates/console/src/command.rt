@@ -3,17 +3,18 @@
 ghost use Rattle.console.specs.Lines.{Means};
 
 use lines::{Escaped, Parts, is_blank, is_comment};
+use std::error::Error;
 use std::fmt;
 
 /// What the console can be asked for.
-#[derive(Clone, Copy)]
+#[derive(Clone, Copy, Debug, PartialEq, Eq)]
 pub enum Command<'a> {
     /// To load the pattern.
     Load(&'a [u8]),
 }
 
 /// A line that asks for what the console does not know.
-#[derive(Clone, Copy)]
+#[derive(Clone, Copy, Debug, PartialEq, Eq)]
 pub struct Unknown<'a> {
     pub line: &'a [u8],
 }
@@ -26,6 +27,8 @@ impl fmt::Display for Unknown<'_> {
         f.write_str("  known are: load PATTERN, and lines that are blank or begin with #")
     }
 }
+
+impl Error for Unknown<'_> {}
 
 impl<'a> Command<'a> {
     /// What a line asks for; nothing where it is blank or a comment.

@@ -18,7 +18,7 @@ pub fn is_comment(line: &[u8]) -> bool
 }
 
 /// A line taken apart at its first space: the word before it, and all that follows it.
-#[derive(Clone, Copy)]
+#[derive(Clone, Copy, Debug, PartialEq, Eq)]
 pub struct Parts<'a> {
     pub word: &'a [u8],
     pub rest: &'a [u8],

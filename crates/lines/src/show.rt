@@ -31,12 +31,7 @@ impl fmt::Display for Units<'_> {
             let Ok(Some(placed)) = reader.next_unit() else {
                 break;
             };
-            write!(
-                f,
-                "  unit at {}: {}",
-                placed.place,
-                Kind::of_unit(placed.unit)
-            )?;
+            write!(f, "  unit at {}: {}", placed.place, Kind::from(placed.unit))?;
             if let PatternUnit::Plain(Letter::Byte(b)) = placed.unit {
                 write!(f, " {b:02X}")?;
             }

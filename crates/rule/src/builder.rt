@@ -80,7 +80,7 @@ fn word_of(entry: Entry) -> u32
     ensures { Says result entry.kind entry.byte entry.first entry.second }
 {
     let fields = field(entry.first) * 0x400 + field(entry.second);
-    entry.kind.number() * 0x1000_0000 + u32::from(entry.byte) * 0x10_0000 + fields
+    u32::from(entry.kind) * 0x1000_0000 + u32::from(entry.byte) * 0x10_0000 + fields
 }
 
 /// The two, the smaller first, an only one first.
@@ -184,7 +184,7 @@ impl Builder {
     {
         let (first, second) = in_order(self.front, own);
         let entry = Entry {
-            kind: Kind::of_unit(unit),
+            kind: Kind::from(unit),
             byte: byte(unit),
             first,
             second,
@@ -320,10 +320,10 @@ impl Builder {
         }
     }
 
-    /// Adds the CLOSE and the END.
+    /// Adds the CLOSE and the END: the rule of a pattern whose units the builder has taken.
     fn finish(mut self) -> Rule
-        requires { (Room self) × ((self.count < most_units + 2) × ((self.depth ≡ 1) × (Position (OpenedLast self).bar))) }
-        ensures { (us : List Written) (x : Before) → Stands self us [] x → WordsOf (Sofar (Open ∷ (us ++ (Close ∷ [])))) (Open ∷ (us ++ (Close ∷ []))) result.last result.words }
+        requires { ((bytes : List ℕ) × ReadTo bytes self) × (self.depth ≡ 1) }
+        ensures { (bytes : List ℕ) → ReadTo bytes self → RuleOf bytes result.last result.words }
     {
         let position = self.count;
         let whole = self.groups[self.depth - 1];

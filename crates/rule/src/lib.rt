@@ -7,12 +7,13 @@ mod show;
 mod table;
 mod word;
 
-ghost use Rattle.rule.specs.Tables.{EachPatternHasOneTable, Loads};
+ghost use Rattle.rule.specs.Loading.{Loads};
+ghost use Rattle.rule.specs.Tables.{EachPatternHasOneTable};
 
 pub use builder::{empty_rule, read};
 use syntax::Fault;
 pub use table::Rule;
-pub use word::{Entry, Kind};
+pub use word::{Entry, Kind, UnknownKind};
 
 /// A pattern has at most so many units.
 pub const MOST_UNITS: u16 = 1020;

@@ -1,6 +1,7 @@
 //! A fault in words.
 
 use crate::Fault;
+use std::error::Error;
 use std::fmt;
 
 /// The stop's number, the place and the reason.
@@ -12,3 +13,5 @@ impl fmt::Display for Fault {
         write!(f, "stop {number} at {place}: {stop}")
     }
 }
+
+impl Error for Fault {}

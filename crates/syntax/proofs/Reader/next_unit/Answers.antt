@@ -7,19 +7,19 @@ pub overflow_sub-self : goal.overflow_sub-self
 overflow_sub-self c =
     rest_fits c.args.self.now.pattern.now c.args.self.now.place c.if-place-pattern.false c.in-Some.unit c.in-Some.rest.now c.in-Some.ensures
 
-pub returns-in-Some : goal.returns-in-Some
-returns-in-Some c = record {
+pub returns : goal.returns
+returns c = record {
   same = refl;
   reads = (refl, passed c.args.self.now.pattern.now c.args.self.now.place c.if-place-pattern.false c.in-Some.unit c.in-Some.rest.now c.in-Some.ensures);
 }
 
-pub returns-in-None : goal.returns-in-None
-returns-in-None c = record {
+pub returns-in_default : goal.returns-in_default
+returns-in_default c = record {
   same = refl;
   reads = (
     record {
       inside = c.if-place-pattern.false;
-      stuck = subst Stuck (rest_of c.args.self.now.place c.args.self.now.pattern.now) c.in-None.ensures;
+      stuck = subst Stuck (rest_of c.args.self.now.place c.args.self.now.pattern.now) c.in_default.ensures;
       number = refl;
       place = refl;
     },
