@@ -1,12 +1,14 @@
 -- When a screen is sound, and what a call on a sound screen does.
 use Rattle.std.specs.Prelude.{◌≡◌, ℕ, ◌+◌, ◌-◌, ◌*◌, ◌<◌, ◌≤◌, List, length, Some, None, Option}
 use Rattle.board.specs.Boards.{Make}
+use Rattle.board.specs.declared.Board.{Ghosts}
 use Rattle.conduct.specs.Calls.{AcceptedBy, Frame, Order, Said, loaded_after, open_after, stopped}
 use Rattle.conduct.specs.Rules.{Done}
 use Rattle.mark.specs.Limits.{most_bytes}
 use Rattle.mark.specs.Marks.{Kind}
 use Rattle.rule.specs.Tables.{RuleOf}
 use Rattle.rule.specs.declared.table.Rule.{Rule}
+use Rattle.calls.specs.declared.Screen.{Screen}
 use Rattle.calls.specs.declared.frame.OpenFrame.{OpenFrame}
 use Rattle.calls.specs.declared.frame.State.TheVariants.{Empty, Open, Ready}
 use Rattle.calls.specs.declared.frame.State.{State}
@@ -51,3 +53,17 @@ module _ {M X : Type 0} (make : Make X) (kind : Kind M) where
     pub sound : Sound (loaded_after call said l) (open_after call said o) state' rule' cells' meter'
     pub unchanged : ¬ AcceptedBy said → (state' ≡ state) × (rule' ≡ rule)
     pub not_the_boards : (n : ℕ) → said ≡ stopped n → n < 18
+
+-- A screen over a board of the make, with marks of the kind.
+module _ {B M : Type 0} (board : Ghosts B M) (kind : Kind M) where
+  -- it is sound, with this pattern loaded and this frame open
+  abbrev pub SoundScreen : Option (List ℕ) → Option Frame → Screen B → Type 0
+  SoundScreen l o s = Sound board.make kind l o s.state s.rule (board.cells s.board.now) (board.meter s.board.now)
+
+  -- What a call makes of it: it is over the same board, which keeps what its make keeps; and if it was sound, the call goes by the
+  -- rules.
+  pub record Conducts (old new : Screen B) (call : Order) (said : Said M) : Type 0 where
+    pub same : new.board.ghost_name ≡ old.board.ghost_name
+    pub kept : board.keeps.same old.board.now new.board.now
+    pub goes : (l : Option (List ℕ)) (o : Option Frame) → SoundScreen l o old
+        → Goes board.make kind l o old.state old.rule (board.cells old.board.now) (board.meter old.board.now) call said new.state new.rule (board.cells new.board.now) (board.meter new.board.now)

@@ -6,11 +6,11 @@
 mod call;
 mod frame;
 
-ghost use Rattle.std.specs.Prelude.{◌≡◌, ℕ, ◌≤◌, List, length, None, Option as Maybe};
-ghost use Rattle.conduct.specs.Calls.{Frame as Opened, to_begin, to_drop, to_feed, to_finish, to_load, to_meter};
+ghost use Rattle.std.specs.Prelude.{◌≡◌, ◌≤◌, length, None};
+ghost use Rattle.conduct.specs.Calls.{to_begin, to_drop, to_feed, to_finish, to_load, to_meter};
 ghost use Rattle.mark.specs.Limits.{most_bytes};
 ghost use Rattle.screen.specs.Schedules.{frame_touches};
-ghost use Rattle.calls.specs.Sound.{Goes, Sound};
+ghost use Rattle.calls.specs.Sound.{Conducts, SoundScreen};
 ghost use Rattle.calls.specs.Told.{Unopened, order, said, said_at, said_number, said_verdict};
 
 use board::Board;
@@ -45,7 +45,7 @@ impl<'b, B: Board> Screen<'b, B> {
     /// A screen that is empty.
     pub fn new(board: &'b mut B) -> Screen<'b, B>
         ensures lent { (result.board.ghost_name ≡ board.entry.ghost_name) × (result.board.now ≡ board.old) }
-        ensures sound { Sound B.make B.M.Mark.kind None None result.state result.rule (B.cells result.board.now) (B.meter result.board.now) }
+        ensures sound { SoundScreen B.Board B.M.Mark.kind None None result }
     {
         Screen {
             board,
@@ -57,9 +57,7 @@ impl<'b, B: Board> Screen<'b, B> {
     /// A load while no frame is open.
     fn load_unopened(&mut self, pattern: &[u8]) -> Result<u16, Fault>
         requires { Unopened self.old.state }
-        ensures same { self.new.board.ghost_name ≡ self.old.board.ghost_name }
-        ensures kept { B.keeps.same self.old.board.now self.new.board.now }
-        ensures goes { (l : Maybe (List ℕ)) (o : Maybe Opened) → Sound B.make B.M.Mark.kind l o self.old.state self.old.rule (B.cells self.old.board.now) (B.meter self.old.board.now) → Goes B.make B.M.Mark.kind l o self.old.state self.old.rule (B.cells self.old.board.now) (B.meter self.old.board.now) (to_load pattern.now) (said_at result) self.new.state self.new.rule (B.cells self.new.board.now) (B.meter self.new.board.now) }
+        ensures { Conducts B.Board B.M.Mark.kind self.old self.new (to_load pattern.now) (said_at result) }
     {
         let rule = read(pattern)?;
         let last = rule.last();
@@ -77,9 +75,7 @@ impl<'b, B: Board> Screen<'b, B> {
     /// A begin with a rule and no frame.
     fn begin_ready(&mut self, renter: u8, length: u64) -> Result<u64, Stop>
         requires { self.old.state ≡ State.Ready }
-        ensures same { self.new.board.ghost_name ≡ self.old.board.ghost_name }
-        ensures kept { B.keeps.same self.old.board.now self.new.board.now }
-        ensures goes { (l : Maybe (List ℕ)) (o : Maybe Opened) → Sound B.make B.M.Mark.kind l o self.old.state self.old.rule (B.cells self.old.board.now) (B.meter self.old.board.now) → Goes B.make B.M.Mark.kind l o self.old.state self.old.rule (B.cells self.old.board.now) (B.meter self.old.board.now) (to_begin renter length) (said_number result) self.new.state self.new.rule (B.cells self.new.board.now) (B.meter self.new.board.now) }
+        ensures { Conducts B.Board B.M.Mark.kind self.old self.new (to_begin renter length) (said_number result) }
     {
         if length > u64::from(MOST_BYTES) {
             return Err(Stop::FrameTooLong);
@@ -101,9 +97,7 @@ impl<'b, B: Board> Screen<'b, B> {
     /// A feed while a frame is open.
     fn feed_open(&mut self, frame: OpenFrame, renter: u8, byte: u8) -> Result<u64, Stop>
         requires { self.old.state ≡ State.Open frame }
-        ensures same { self.new.board.ghost_name ≡ self.old.board.ghost_name }
-        ensures kept { B.keeps.same self.old.board.now self.new.board.now }
-        ensures goes { (l : Maybe (List ℕ)) (o : Maybe Opened) → Sound B.make B.M.Mark.kind l o self.old.state self.old.rule (B.cells self.old.board.now) (B.meter self.old.board.now) → Goes B.make B.M.Mark.kind l o self.old.state self.old.rule (B.cells self.old.board.now) (B.meter self.old.board.now) (to_feed renter byte) (said_number result) self.new.state self.new.rule (B.cells self.new.board.now) (B.meter self.new.board.now) }
+        ensures { Conducts B.Board B.M.Mark.kind self.old self.new (to_feed renter byte) (said_number result) }
     {
         if frame.renter != renter {
             return Err(Stop::OtherRenter);
@@ -125,9 +119,7 @@ impl<'b, B: Board> Screen<'b, B> {
     /// A finish while a frame is open.
     fn finish_open(&mut self, frame: OpenFrame, renter: u8) -> Result<(B::M, u64), Stop>
         requires { self.old.state ≡ State.Open frame }
-        ensures same { self.new.board.ghost_name ≡ self.old.board.ghost_name }
-        ensures kept { B.keeps.same self.old.board.now self.new.board.now }
-        ensures goes { (l : Maybe (List ℕ)) (o : Maybe Opened) → Sound B.make B.M.Mark.kind l o self.old.state self.old.rule (B.cells self.old.board.now) (B.meter self.old.board.now) → Goes B.make B.M.Mark.kind l o self.old.state self.old.rule (B.cells self.old.board.now) (B.meter self.old.board.now) (to_finish renter) (said_verdict result) self.new.state self.new.rule (B.cells self.new.board.now) (B.meter self.new.board.now) }
+        ensures { Conducts B.Board B.M.Mark.kind self.old self.new (to_finish renter) (said_verdict result) }
     {
         if frame.renter != renter {
             return Err(Stop::OtherRenter);
@@ -143,9 +135,7 @@ impl<'b, B: Board> Screen<'b, B> {
     /// A drop while a frame is open.
     fn drop_open(&mut self, frame: OpenFrame, renter: u8) -> Result<u64, Stop>
         requires { self.old.state ≡ State.Open frame }
-        ensures same { self.new.board.ghost_name ≡ self.old.board.ghost_name }
-        ensures kept { B.keeps.same self.old.board.now self.new.board.now }
-        ensures goes { (l : Maybe (List ℕ)) (o : Maybe Opened) → Sound B.make B.M.Mark.kind l o self.old.state self.old.rule (B.cells self.old.board.now) (B.meter self.old.board.now) → Goes B.make B.M.Mark.kind l o self.old.state self.old.rule (B.cells self.old.board.now) (B.meter self.old.board.now) (to_drop renter) (said_number result) self.new.state self.new.rule (B.cells self.new.board.now) (B.meter self.new.board.now) }
+        ensures { Conducts B.Board B.M.Mark.kind self.old self.new (to_drop renter) (said_number result) }
     {
         if frame.renter != renter {
             return Err(Stop::OtherRenter);
@@ -157,9 +147,7 @@ impl<'b, B: Board> Screen<'b, B> {
 
     /// Reads a pattern and makes it the rule; answers the number of its last position.
     pub fn load(&mut self, pattern: &[u8]) -> Result<u16, Fault>
-        ensures same { self.new.board.ghost_name ≡ self.old.board.ghost_name }
-        ensures kept { B.keeps.same self.old.board.now self.new.board.now }
-        ensures goes { (l : Maybe (List ℕ)) (o : Maybe Opened) → Sound B.make B.M.Mark.kind l o self.old.state self.old.rule (B.cells self.old.board.now) (B.meter self.old.board.now) → Goes B.make B.M.Mark.kind l o self.old.state self.old.rule (B.cells self.old.board.now) (B.meter self.old.board.now) (to_load pattern.now) (said_at result) self.new.state self.new.rule (B.cells self.new.board.now) (B.meter self.new.board.now) }
+        ensures { Conducts B.Board B.M.Mark.kind self.old self.new (to_load pattern.now) (said_at result) }
     {
         match self.state {
             State::Empty | State::Ready => self.load_unopened(pattern),
@@ -172,9 +160,7 @@ impl<'b, B: Board> Screen<'b, B> {
 
     /// Opens a frame of a renter, of so many bytes; answers the touches that it will have made when it is finished.
     pub fn begin(&mut self, renter: u8, length: u64) -> Result<u64, Stop>
-        ensures same { self.new.board.ghost_name ≡ self.old.board.ghost_name }
-        ensures kept { B.keeps.same self.old.board.now self.new.board.now }
-        ensures goes { (l : Maybe (List ℕ)) (o : Maybe Opened) → Sound B.make B.M.Mark.kind l o self.old.state self.old.rule (B.cells self.old.board.now) (B.meter self.old.board.now) → Goes B.make B.M.Mark.kind l o self.old.state self.old.rule (B.cells self.old.board.now) (B.meter self.old.board.now) (to_begin renter length) (said_number result) self.new.state self.new.rule (B.cells self.new.board.now) (B.meter self.new.board.now) }
+        ensures { Conducts B.Board B.M.Mark.kind self.old self.new (to_begin renter length) (said_number result) }
     {
         match self.state {
             State::Empty => Err(Stop::NoRule),
@@ -185,9 +171,7 @@ impl<'b, B: Board> Screen<'b, B> {
 
     /// Feeds the next byte of a renter's frame; answers the bytes still to come.
     pub fn feed(&mut self, renter: u8, byte: u8) -> Result<u64, Stop>
-        ensures same { self.new.board.ghost_name ≡ self.old.board.ghost_name }
-        ensures kept { B.keeps.same self.old.board.now self.new.board.now }
-        ensures goes { (l : Maybe (List ℕ)) (o : Maybe Opened) → Sound B.make B.M.Mark.kind l o self.old.state self.old.rule (B.cells self.old.board.now) (B.meter self.old.board.now) → Goes B.make B.M.Mark.kind l o self.old.state self.old.rule (B.cells self.old.board.now) (B.meter self.old.board.now) (to_feed renter byte) (said_number result) self.new.state self.new.rule (B.cells self.new.board.now) (B.meter self.new.board.now) }
+        ensures { Conducts B.Board B.M.Mark.kind self.old self.new (to_feed renter byte) (said_number result) }
     {
         match self.state {
             State::Open(frame) => self.feed_open(frame, renter, byte),
@@ -197,9 +181,7 @@ impl<'b, B: Board> Screen<'b, B> {
 
     /// Ends a renter's frame; answers its verdict, and the touches made for it.
     pub fn finish(&mut self, renter: u8) -> Result<(B::M, u64), Stop>
-        ensures same { self.new.board.ghost_name ≡ self.old.board.ghost_name }
-        ensures kept { B.keeps.same self.old.board.now self.new.board.now }
-        ensures goes { (l : Maybe (List ℕ)) (o : Maybe Opened) → Sound B.make B.M.Mark.kind l o self.old.state self.old.rule (B.cells self.old.board.now) (B.meter self.old.board.now) → Goes B.make B.M.Mark.kind l o self.old.state self.old.rule (B.cells self.old.board.now) (B.meter self.old.board.now) (to_finish renter) (said_verdict result) self.new.state self.new.rule (B.cells self.new.board.now) (B.meter self.new.board.now) }
+        ensures { Conducts B.Board B.M.Mark.kind self.old self.new (to_finish renter) (said_verdict result) }
     {
         match self.state {
             State::Open(frame) => self.finish_open(frame, renter),
@@ -209,9 +191,7 @@ impl<'b, B: Board> Screen<'b, B> {
 
     /// Ends a renter's frame unread; answers the touches made for it.
     pub fn drop(&mut self, renter: u8) -> Result<u64, Stop>
-        ensures same { self.new.board.ghost_name ≡ self.old.board.ghost_name }
-        ensures kept { B.keeps.same self.old.board.now self.new.board.now }
-        ensures goes { (l : Maybe (List ℕ)) (o : Maybe Opened) → Sound B.make B.M.Mark.kind l o self.old.state self.old.rule (B.cells self.old.board.now) (B.meter self.old.board.now) → Goes B.make B.M.Mark.kind l o self.old.state self.old.rule (B.cells self.old.board.now) (B.meter self.old.board.now) (to_drop renter) (said_number result) self.new.state self.new.rule (B.cells self.new.board.now) (B.meter self.new.board.now) }
+        ensures { Conducts B.Board B.M.Mark.kind self.old self.new (to_drop renter) (said_number result) }
     {
         match self.state {
             State::Open(frame) => self.drop_open(frame, renter),
@@ -228,9 +208,7 @@ impl<'b, B: Board> Screen<'b, B> {
 
     /// A call as a value. What it does follows from the screen's state and the call together.
     pub fn call(&mut self, call: Call<'_>) -> Result<Answer<B::M>, Refusal>
-        ensures same { self.new.board.ghost_name ≡ self.old.board.ghost_name }
-        ensures kept { B.keeps.same self.old.board.now self.new.board.now }
-        ensures goes { (l : Maybe (List ℕ)) (o : Maybe Opened) → Sound B.make B.M.Mark.kind l o self.old.state self.old.rule (B.cells self.old.board.now) (B.meter self.old.board.now) → Goes B.make B.M.Mark.kind l o self.old.state self.old.rule (B.cells self.old.board.now) (B.meter self.old.board.now) (order call.entry) (said result) self.new.state self.new.rule (B.cells self.new.board.now) (B.meter self.new.board.now) }
+        ensures { Conducts B.Board B.M.Mark.kind self.old self.new (order call.entry) (said result) }
     {
         match (&mut self.state, call) {
             (_, Call::Meter) => Ok(Answer::Number(self.board.reading())),
