@@ -1,8 +1,9 @@
--- The calls of a sound screen, by its state.
-use Rattle.std.proofs.Common.{◌≡◌, ℕ, ◌+◌, ◌-◌, ◌%◌, ◌^◌, ◌<◌, ◌≤◌, ◌≢◌, List, [], length, Some, None, Ok, Err, Option, Result, sym, refl, ◌∙◌, subst, arith}
+-- The calls of a screen, by its state.
+use Rattle.std.proofs.Common.{◌≡◌, ℕ, ◌+◌, ◌-◌, ◌%◌, ◌^◌, ◌<◌, ◌≤◌, ◌≢◌, List, [], length, Some, None, Ok, Err, Option, Result, sym, refl, ap, ◌∙◌, subst, arith}
 use Rattle.board.specs.Boards.{Make}
+use Rattle.board.specs.declared.Board.{Ghosts}
 use Rattle.conduct.specs.Calls.{Frame, Order, Said, number, stopped, stopped_at, to_begin, to_drop, to_feed, to_finish, to_load, to_meter, verdict}
-use Rattle.conduct.specs.Rules.{Due, begin_too_long, begin_while_open, begin_without_allowance, begin_without_rule, drop_of_another, drop_without_frame, feed_after_the_last, feed_of_another, feed_without_frame, finish_before_the_last, finish_of_another, finish_without_frame, load_while_open, meter_read, none_untouching}
+use Rattle.conduct.specs.Rules.{Due, end_of, begin_too_long, begin_while_open, begin_without_allowance, begin_without_rule, drop_of_another, drop_without_frame, feed_after_the_last, feed_of_another, feed_without_frame, finish_before_the_last, finish_of_another, finish_without_frame, load_while_open, meter_read, none_untouching}
 use Rattle.mark.specs.Limits.{most_bytes}
 use Rattle.mark.specs.Marks.{Kind}
 use Rattle.method.specs.Cells.{begun, fed, wiped}
@@ -14,8 +15,9 @@ use Rattle.rule.specs.declared.table.Rule.{Rule}
 use Rattle.calls.proofs.Loading.{end_is, unopened}
 use Rattle.calls.proofs.Stops.{number_no_stop, stop_at_goes, stop_goes}
 use Rattle.calls.proofs.Touching.{begin_done, begin_never, drop_done, drop_never, feed_done, feed_never, finish_done, finish_never}
-use Rattle.calls.specs.Sound.{Fitted, Goes, Sound, Underway}
+use Rattle.calls.specs.Sound.{Conducts, Fitted, Goes, Sound, SoundScreen, Underway}
 use Rattle.calls.specs.Told.{Unopened}
+use Rattle.calls.specs.declared.Screen.{Screen}
 use Rattle.calls.specs.declared.frame.OpenFrame.{OpenFrame}
 use Rattle.calls.specs.declared.frame.State.TheVariants.{Empty, Open, Ready}
 use Rattle.calls.specs.declared.frame.State.{State}
@@ -33,73 +35,15 @@ module _ {M X : Type 0} (make : Make X) (kind : Kind M) where
       subst (λ z. Goes make kind z o state rule cells meter call said state' rule' cells' meter') (sym e)
       (subst (λ z. Goes make kind l' z state rule cells meter call said state' rule' cells' meter') (sym f) g)
 
-  -- a sound screen's state said otherwise
-  pub sound_at : (l : Option (List ℕ)) (o : Option Frame) (state state' : State) (rule : Rule) (cells : List M) (meter : X) → state ≡ state' → Sound make kind l o state rule cells meter → Sound make kind l o state' rule cells meter
-  sound_at l o state state' rule cells meter e s = subst (λ z. Sound make kind l o z rule cells meter) e s
-
-  pub goes_from : {l : Option (List ℕ)} {o : Option Frame} {state before : State} {rule : Rule} {cells : List M} {meter : X} {call : Order} {said : Said M} {state' : State} {rule' : Rule} {cells' : List M} {meter' : X}
-      → state ≡ before → Goes make kind l o before rule cells meter call said state' rule' cells' meter' → Goes make kind l o state rule cells meter call said state' rule' cells' meter'
-  goes_from {l} {o} {rule = rule} {cells} {meter} {call} {said} {state'} {rule'} {cells'} {meter'} e g =
-      subst (λ z. Goes make kind l o z rule cells meter call said state' rule' cells' meter') (sym e) g
-
-  -- the same, with the call and what it was told said otherwise
-  pub goes_as : {l : Option (List ℕ)} {o : Option Frame} {state : State} {rule : Rule} {cells : List M} {meter : X} {call call' : Order} {said said' : Said M} {state' : State} {rule' : Rule} {cells' : List M} {meter' : X}
-      → call ≡ call' → said ≡ said' → Goes make kind l o state rule cells meter call' said' state' rule' cells' meter' → Goes make kind l o state rule cells meter call said state' rule' cells' meter'
-  goes_as {l} {o} {state} {rule} {cells} {meter} {call} {call'} {said} {said'} {state'} {rule'} {cells'} {meter'} e f g =
-      subst (λ z. Goes make kind l o state rule cells meter z said state' rule' cells' meter') (sym e)
-      (subst (λ z. Goes make kind l o state rule cells meter call' z state' rule' cells' meter') (sym f) g)
-
   module _ (l : Option (List ℕ)) (o : Option Frame) (state : State) (rule : Rule) (cells : List M) (meter : X) (s : Sound make kind l o state rule cells meter) where
-    -- the stops that follow from the state alone
-    pub begin_empty : (renter m : ℕ) → state ≡ Empty → Goes make kind l o state rule cells meter (to_begin renter m) (stopped 10) state rule cells meter
-    begin_empty renter m e = let (a, b) = at_empty e in stop_goes make kind s (omega arith) (due_at a refl begin_without_rule)
-      where
-        at_empty : state ≡ Empty → (l ≡ None) × (o ≡ None)
-        at_empty e = subst (λ z. Sound make kind l o z rule cells meter) e s
-
-    module _ (u : Unopened state) where
-      pub feed_closed : (renter byte : ℕ) → Goes make kind l o state rule cells meter (to_feed renter byte) (stopped 12) state rule cells meter
-      feed_closed renter byte = stop_goes make kind s (omega arith) (due_at refl (unopened make kind l o rule cells meter state u s) feed_without_frame)
-
-      pub finish_closed : (renter : ℕ) → Goes make kind l o state rule cells meter (to_finish renter) (stopped 12) state rule cells meter
-      finish_closed renter = stop_goes make kind s (omega arith) (due_at refl (unopened make kind l o rule cells meter state u s) finish_without_frame)
-
-      pub drop_closed : (renter : ℕ) → Goes make kind l o state rule cells meter (to_drop renter) (stopped 12) state rule cells meter
-      drop_closed renter = stop_goes make kind s (omega arith) (due_at refl (unopened make kind l o rule cells meter state u s) drop_without_frame)
-
-    pub meter_goes : (n : ℕ) → n ≡ make.shows (length cells) meter → Goes make kind l o state rule cells meter to_meter (number n) state rule cells meter
-    meter_goes n e = record {
-      done = record {
-        due = subst (λ z. Due make kind (length cells) meter l o to_meter (number z)) (sym e) meter_read;
-        touches = [];
-        makes = none_untouching (λ t. elim t [ ]);
-        moves = refl;
-        sized = refl;
-        left = refl;
-      };
-      sound = s;
-      unchanged = λ a. (refl, refl);
-      not_the_boards = λ k x. number_no_stop x;
-    }
-
     module _ (e : state ≡ Ready) where
       ready : (p : List ℕ) × (l ≡ Some p) × (o ≡ None) × Fitted p rule (length cells)
       ready = subst (λ z. Sound make kind l o z rule cells meter) e s
 
       module _ (renter m : ℕ) where
-        pub begin_long : most_bytes < m → Goes make kind l o state rule cells meter (to_begin renter m) (stopped 16) state rule cells meter
-        begin_long h = let (p, a, b, fit) = ready in stop_goes make kind s (omega arith) (due_at a b (begin_too_long h))
-
         module _ (all last : ℕ) (is : all ≡ frame_touches last m) (at : last ≡ rule.last) (short : m ≤ most_bytes) where
           all_is : all ≡ frame_touches rule.last m
           all_is = subst (λ z. all ≡ frame_touches z m) at is
-
-          pub begin_poor : make.allowed (length cells) meter < all → Goes make kind l o state rule cells meter (to_begin renter m) (stopped 17) state rule cells meter
-          begin_poor h =
-              let (p, a, b, fit) = ready in
-              let k : make.allowed (length cells) meter < frame_touches rule.last m = subst (λ z. make.allowed (length cells) meter < z) all_is h in
-              stop_goes make kind s (omega arith)
-              (due_at a b (begin_without_allowance fit.table.accepted short (subst (λ z. make.allowed (length cells) meter < frame_touches z m) (end_is fit.table) k)))
 
           module _ (cells' : List M) (meter' : X) (enough : all ≤ make.allowed (length cells) meter) where
             abbrev Begun : Result ℕ Stop → Type 0
@@ -122,23 +66,7 @@ module _ {M X : Type 0} (make : Make X) (kind : Kind M) where
       running : (p : List ℕ) × (f : Frame) × (l ≡ Some p) × (o ≡ Some f) × Underway make kind p f own rule cells meter
       running = subst (λ z. Sound make kind l o z rule cells meter) e s
 
-      pub load_open : (p : List ℕ) → Goes make kind l o state rule cells meter (to_load p) (stopped_at 9 0) state rule cells meter
-      load_open p = let (q, f, a, b, u) = running in stop_at_goes make kind s (due_at refl b load_while_open)
-
-      pub begin_open : (renter m : ℕ) → Goes make kind l o state rule cells meter (to_begin renter m) (stopped 11) state rule cells meter
-      begin_open renter m = let (p, f, a, b, u) = running in stop_goes make kind s (omega arith) (due_at a b begin_while_open)
-
       module _ (renter byte : ℕ) where
-        pub feed_other : own.renter ≢ renter → Goes make kind l o state rule cells meter (to_feed renter byte) (stopped 13) state rule cells meter
-        feed_other h = let (p, f, a, b, u) = running in stop_goes make kind s (omega arith) (due_at a b (feed_of_another (λ x. h (u.renter ∙ x))))
-
-        pub feed_full : own.renter ≡ renter → own.length ≤ own.fed → Goes make kind l o state rule cells meter (to_feed renter byte) (stopped 14) state rule cells meter
-        feed_full x h =
-            let (p, f, a, b, u) = running in
-            let q = u.promised in
-            let w = u.fed in
-            stop_goes make kind s (omega arith) (due_at a b (feed_after_the_last (sym u.renter ∙ x) (omega arith)))
-
         module _ (cells' : List M) (meter' : X) (before : own.fed < own.length) where
           abbrev Fed : Result ℕ Stop → Type 0
           Fed r =
@@ -156,19 +84,6 @@ module _ {M X : Type 0} (make : Make X) (kind : Kind M) where
               goes_at a b (feed_done make kind cells meter rule p f own u renter byte cells' meter' more small mine before mv state _ refl)
 
       module _ (renter : ℕ) where
-        pub finish_other : own.renter ≢ renter → Goes make kind l o state rule cells meter (to_finish renter) (stopped 13) state rule cells meter
-        finish_other h = let (p, f, a, b, u) = running in stop_goes make kind s (omega arith) (due_at a b (finish_of_another (λ x. h (u.renter ∙ x))))
-
-        pub finish_early : own.renter ≡ renter → own.fed < own.length → Goes make kind l o state rule cells meter (to_finish renter) (stopped 15) state rule cells meter
-        finish_early x h =
-            let (p, f, a, b, u) = running in
-            let q = u.promised in
-            let w = u.fed in
-            stop_goes make kind s (omega arith) (due_at a b (finish_before_the_last (sym u.renter ∙ x) (omega arith)))
-
-        pub drop_other : own.renter ≢ renter → Goes make kind l o state rule cells meter (to_drop renter) (stopped 13) state rule cells meter
-        drop_other h = let (p, f, a, b, u) = running in stop_goes make kind s (omega arith) (due_at a b (drop_of_another (λ x. h (u.renter ∙ x))))
-
         module _ (cells' : List M) (meter' : X) where
           abbrev Finished : Result (M × ℕ) Stop → Type 0
           Finished r =
@@ -196,3 +111,104 @@ module _ {M X : Type 0} (make : Make X) (kind : Kind M) where
               let (p, f, a, b, u) = running in
               let (en, mv) = g p u.fitted.table in
               goes_at a b (drop_done make kind cells meter rule p f own u renter state cells' meter' more mine mv)
+
+-- The calls that leave a screen as it is, by its state.
+module _ {B M : Type 0} (board : Ghosts B M) (kind : Kind M) (s : Screen B) where
+  abbrev DueThen : Order → Said M → Type 0
+  DueThen call said = (l : Option (List ℕ)) (o : Option Frame) → SoundScreen board kind l o s → Due board.make kind (length (board.cells s.board.now)) (board.meter s.board.now) l o call said
+
+  stays : {call : Order} {n : ℕ} → n < 18 → DueThen call (stopped n) → Conducts board kind s s call (stopped n)
+  stays h due = record { same = refl; kept = board.keeps.still _; goes = λ l o d. stop_goes board.make kind d h (due l o d) }
+
+  stays_at : {call : Order} {n place : ℕ} → DueThen call (stopped_at n place) → Conducts board kind s s call (stopped_at n place)
+  stays_at due = record { same = refl; kept = board.keeps.still _; goes = λ l o d. stop_at_goes board.make kind d (due l o d) }
+
+  pub read_meter : {n : ℕ} → n ≡ board.make.shows (length (board.cells s.board.now)) (board.meter s.board.now) → Conducts board kind s s to_meter (number n)
+  read_meter e = record {
+    same = refl;
+    kept = board.keeps.still _;
+    goes = λ l o d. record {
+      done = record {
+        due = subst (λ z. Due board.make kind (length (board.cells s.board.now)) (board.meter s.board.now) l o to_meter (number z)) (sym e) meter_read;
+        touches = [];
+        makes = none_untouching (λ t. elim t [ ]);
+        moves = refl;
+        sized = refl;
+        left = refl;
+      };
+      sound = d;
+      unchanged = λ a. (refl, refl);
+      not_the_boards = λ k x. number_no_stop x;
+    };
+  }
+
+  module _ (e : s.state ≡ Empty) where
+    blank : (l : Option (List ℕ)) (o : Option Frame) → SoundScreen board kind l o s → (l ≡ None) × (o ≡ None)
+    blank l o d = subst (λ z. Sound board.make kind l o z s.rule (board.cells s.board.now) (board.meter s.board.now)) e d
+
+    pub begin_empty : {renter m : ℕ} → Conducts board kind s s (to_begin renter m) (stopped 10)
+    begin_empty = stays (omega arith) (λ l o d. let (a, b) = blank l o d in due_at board.make kind a refl begin_without_rule)
+
+  module _ (u : Unopened s.state) where
+    none : (l : Option (List ℕ)) (o : Option Frame) → SoundScreen board kind l o s → o ≡ None
+    none l o d = unopened board.make kind l o s.rule (board.cells s.board.now) (board.meter s.board.now) s.state u d
+
+    pub feed_closed : {renter byte : ℕ} → Conducts board kind s s (to_feed renter byte) (stopped 12)
+    feed_closed = stays (omega arith) (λ l o d. due_at board.make kind refl (none l o d) feed_without_frame)
+
+    pub finish_closed : {renter : ℕ} → Conducts board kind s s (to_finish renter) (stopped 12)
+    finish_closed = stays (omega arith) (λ l o d. due_at board.make kind refl (none l o d) finish_without_frame)
+
+    pub drop_closed : {renter : ℕ} → Conducts board kind s s (to_drop renter) (stopped 12)
+    drop_closed = stays (omega arith) (λ l o d. due_at board.make kind refl (none l o d) drop_without_frame)
+
+  module _ (e : s.state ≡ Ready) where
+    standing : (l : Option (List ℕ)) (o : Option Frame) → SoundScreen board kind l o s → (p : List ℕ) × (l ≡ Some p) × (o ≡ None) × Fitted p s.rule (length (board.cells s.board.now))
+    standing l o d = ready board.make kind l o s.state s.rule (board.cells s.board.now) (board.meter s.board.now) d e
+
+    pub begin_long : {renter m : ℕ} → most_bytes < m → Conducts board kind s s (to_begin renter m) (stopped 16)
+    begin_long h = stays (omega arith) (λ l o d. let (p, a, b, fit) = standing l o d in due_at board.make kind a b (begin_too_long h))
+
+    pub begin_poor : {renter m all last : ℕ} → all ≡ frame_touches last m → last ≡ s.rule.last → m ≤ most_bytes → board.make.allowed (length (board.cells s.board.now)) (board.meter s.board.now) < all → Conducts board kind s s (to_begin renter m) (stopped 17)
+    begin_poor {m = m} {all} {last} is at short h = stays (omega arith) (λ l o d.
+        let (p, a, b, fit) = standing l o d in
+        let e : all ≡ frame_touches (end_of fit.table.accepted) m = is ∙ ap (λ z. frame_touches z m) (at ∙ end_is fit.table) in
+        due_at board.make kind a b (begin_without_allowance fit.table.accepted short (subst (λ z. board.make.allowed (length (board.cells s.board.now)) (board.meter s.board.now) < z) e h)))
+
+  module _ {own : OpenFrame} (e : s.state ≡ Open own) where
+    under_way : (l : Option (List ℕ)) (o : Option Frame) → SoundScreen board kind l o s → (p : List ℕ) × (f : Frame) × (l ≡ Some p) × (o ≡ Some f) × Underway board.make kind p f own s.rule (board.cells s.board.now) (board.meter s.board.now)
+    under_way l o d = running board.make kind l o s.state s.rule (board.cells s.board.now) (board.meter s.board.now) d own e
+
+    pub load_open : {p : List ℕ} → Conducts board kind s s (to_load p) (stopped_at 9 0)
+    load_open = stays_at (λ l o d. let (q, f, a, b, u) = under_way l o d in due_at board.make kind refl b load_while_open)
+
+    pub begin_open : {renter m : ℕ} → Conducts board kind s s (to_begin renter m) (stopped 11)
+    begin_open = stays (omega arith) (λ l o d. let (p, f, a, b, u) = under_way l o d in due_at board.make kind a b begin_while_open)
+
+    module _ {renter : ℕ} where
+      pub feed_other : {byte : ℕ} → own.renter ≢ renter → Conducts board kind s s (to_feed renter byte) (stopped 13)
+      feed_other h = stays (omega arith) (λ l o d. let (p, f, a, b, u) = under_way l o d in due_at board.make kind a b (feed_of_another (λ x. h (u.renter ∙ x))))
+
+      pub feed_full : {byte : ℕ} → own.renter ≡ renter → own.length ≤ own.fed → Conducts board kind s s (to_feed renter byte) (stopped 14)
+      feed_full x h = stays (omega arith) (λ l o d.
+          let (p, f, a, b, u) = under_way l o d in
+          let q = u.promised in
+          let w = u.fed in
+          due_at board.make kind a b (feed_after_the_last (sym u.renter ∙ x) (omega arith)))
+
+      pub finish_other : own.renter ≢ renter → Conducts board kind s s (to_finish renter) (stopped 13)
+      finish_other h = stays (omega arith) (λ l o d. let (p, f, a, b, u) = under_way l o d in due_at board.make kind a b (finish_of_another (λ x. h (u.renter ∙ x))))
+
+      pub finish_early : own.renter ≡ renter → own.fed < own.length → Conducts board kind s s (to_finish renter) (stopped 15)
+      finish_early x h = stays (omega arith) (λ l o d.
+          let (p, f, a, b, u) = under_way l o d in
+          let q = u.promised in
+          let w = u.fed in
+          due_at board.make kind a b (finish_before_the_last (sym u.renter ∙ x) (omega arith)))
+
+      pub drop_other : own.renter ≢ renter → Conducts board kind s s (to_drop renter) (stopped 13)
+      drop_other h = stays (omega arith) (λ l o d. let (p, f, a, b, u) = under_way l o d in due_at board.make kind a b (drop_of_another (λ x. h (u.renter ∙ x))))
+
+  -- a call from a state that the screen is in
+  pub conducts_from : {state : State} {t : Screen B} {call : Order} {said : Said M} → s.state ≡ state → Conducts board kind (record { board = s.board; rule = s.rule; state = state }) t call said → Conducts board kind s t call said
+  conducts_from {t = t} {call} {said} e c = subst (λ z. Conducts board kind (record { board = s.board; rule = s.rule; state = z }) t call said) (sym e) c

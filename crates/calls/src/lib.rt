@@ -15,7 +15,6 @@ ghost use Rattle.calls.specs.Told.{Unopened, order, said, said_at, said_number, 
 
 use board::Board;
 pub use call::{Answer, Call, Refusal};
-use call::{number, position, verdict};
 pub use frame::{OpenFrame, State};
 use mark::MOST_BYTES;
 use rule::{Rule, empty_rule, read};
@@ -31,6 +30,12 @@ pub struct Screen<'b, B> {
     rule: Rule,
     state: State,
 }
+
+/// A load while a frame is open is refused at the pattern's first place.
+const LOAD_WHILE_OPEN: Fault = Fault {
+    stop: Stop::LoadWhileOpen,
+    place: 0,
+};
 
 /// The touches of a finished frame of `length` bytes under a rule that ends at `last`.
 fn frame_touches(last: u16, length: u64) -> u64
@@ -99,19 +104,16 @@ impl<'b, B: Board> Screen<'b, B> {
         requires { self.old.state ≡ State.Open frame }
         ensures { Conducts B.Board B.M.Mark.kind self.old self.new (to_feed renter byte) (said_number result) }
     {
-        if frame.renter != renter {
-            return Err(Stop::OtherRenter);
-        }
+        frame.check_renter(renter)?;
         if frame.fed >= frame.length {
             return Err(Stop::AllFed);
         }
         let fed = frame.fed + 1;
         let more = feed_cells(self.board, &self.rule, byte, fed)?;
         self.state = State::Open(OpenFrame {
-            renter: frame.renter,
-            length: frame.length,
             fed,
             touches: frame.touches.wrapping_add(more),
+            ..frame
         });
         Ok(frame.length - fed)
     }
@@ -121,9 +123,7 @@ impl<'b, B: Board> Screen<'b, B> {
         requires { self.old.state ≡ State.Open frame }
         ensures { Conducts B.Board B.M.Mark.kind self.old self.new (to_finish renter) (said_verdict result) }
     {
-        if frame.renter != renter {
-            return Err(Stop::OtherRenter);
-        }
+        frame.check_renter(renter)?;
         if frame.fed < frame.length {
             return Err(Stop::BytesMissing);
         }
@@ -137,9 +137,7 @@ impl<'b, B: Board> Screen<'b, B> {
         requires { self.old.state ≡ State.Open frame }
         ensures { Conducts B.Board B.M.Mark.kind self.old self.new (to_drop renter) (said_number result) }
     {
-        if frame.renter != renter {
-            return Err(Stop::OtherRenter);
-        }
+        frame.check_renter(renter)?;
         let more = wipe_cells(self.board, &self.rule)?;
         self.state = State::Ready;
         Ok(frame.touches.wrapping_add(more))
@@ -151,10 +149,7 @@ impl<'b, B: Board> Screen<'b, B> {
     {
         match self.state {
             State::Empty | State::Ready => self.load_unopened(pattern),
-            State::Open(_) => Err(Fault {
-                stop: Stop::LoadWhileOpen,
-                place: 0,
-            }),
+            State::Open(_) => Err(LOAD_WHILE_OPEN),
         }
     }
 
@@ -212,34 +207,36 @@ impl<'b, B: Board> Screen<'b, B> {
     {
         match (&mut self.state, call) {
             (_, Call::Meter) => Ok(Answer::Number(self.board.reading())),
-            (State::Empty, Call::Load(pattern)) => position(self.load_unopened(pattern)),
-            (State::Empty, Call::Begin { .. }) => number(Err(Stop::NoRule)),
-            (State::Empty, Call::Feed { .. }) => number(Err(Stop::NoFrame)),
-            (State::Empty, Call::Finish { .. }) => number(Err(Stop::NoFrame)),
-            (State::Empty, Call::Drop { .. }) => number(Err(Stop::NoFrame)),
-            (State::Ready, Call::Load(pattern)) => position(self.load_unopened(pattern)),
-            (State::Ready, Call::Begin { renter, length }) => number(self.begin_ready(
-                renter, length,
-            )),
-            (State::Ready, Call::Feed { .. }) => number(Err(Stop::NoFrame)),
-            (State::Ready, Call::Finish { .. }) => number(Err(Stop::NoFrame)),
-            (State::Ready, Call::Drop { .. }) => number(Err(Stop::NoFrame)),
-            (State::Open(_), Call::Load(_)) => position(Err(Fault {
-                stop: Stop::LoadWhileOpen,
-                place: 0,
-            })),
-            (State::Open(_), Call::Begin { .. }) => number(Err(Stop::FrameOpen)),
+            (State::Empty, Call::Load(pattern)) => {
+                Ok(Answer::Number(self.load_unopened(pattern)?.into()))
+            }
+            (State::Empty, Call::Begin { .. }) => Err(Stop::NoRule.into()),
+            (State::Empty, Call::Feed { .. }) => Err(Stop::NoFrame.into()),
+            (State::Empty, Call::Finish { .. }) => Err(Stop::NoFrame.into()),
+            (State::Empty, Call::Drop { .. }) => Err(Stop::NoFrame.into()),
+            (State::Ready, Call::Load(pattern)) => {
+                Ok(Answer::Number(self.load_unopened(pattern)?.into()))
+            }
+            (State::Ready, Call::Begin { renter, length }) => {
+                Ok(Answer::Number(self.begin_ready(renter, length)?))
+            }
+            (State::Ready, Call::Feed { .. }) => Err(Stop::NoFrame.into()),
+            (State::Ready, Call::Finish { .. }) => Err(Stop::NoFrame.into()),
+            (State::Ready, Call::Drop { .. }) => Err(Stop::NoFrame.into()),
+            (State::Open(_), Call::Load(_)) => Err(LOAD_WHILE_OPEN.into()),
+            (State::Open(_), Call::Begin { .. }) => Err(Stop::FrameOpen.into()),
             (State::Open(frame), Call::Feed { renter, byte }) => {
                 let frame = *frame;
-                number(self.feed_open(frame, renter, byte))
+                Ok(Answer::Number(self.feed_open(frame, renter, byte)?))
             }
             (State::Open(frame), Call::Finish { renter }) => {
                 let frame = *frame;
-                verdict(self.finish_open(frame, renter))
+                let (mark, touches) = self.finish_open(frame, renter)?;
+                Ok(Answer::Verdict(mark, touches))
             }
             (State::Open(frame), Call::Drop { renter }) => {
                 let frame = *frame;
-                number(self.drop_open(frame, renter))
+                Ok(Answer::Number(self.drop_open(frame, renter)?))
             }
         }
     }

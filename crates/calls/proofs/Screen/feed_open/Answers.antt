@@ -1,20 +1,15 @@
 use Rattle.calls.proofs.Arms.{feed_full, feed_goes, feed_other, feed_refused}
 use Rattle.calls.proofs.Screen.feed_open.Goals as goal
 use Rattle.std.proofs.Common.{arith, rules}
+use Rattle.std.proofs.lemmas.Result.{err_from_is_err_and}
 
-pub returns-then-frame-renter : goal.returns-then-frame-renter
-returns-then-frame-renter g c = record {
-  same = search rules;
-  kept = g.B.Board.keeps.still _;
-  goes = λ l o s. feed_other g.B.Board.make g.B.M.Mark.kind l o _ _ _ _ s _ c.requires _ _ c.if-frame-renter.true;
-}
+pub returns-in_err-check_renter : goal.returns-in_err-check_renter
+returns-in_err-check_renter g c =
+    let p = err_from_is_err_and c.from_residual.result c.from_residual.ensures.1 in
+    rw (p.1, p.2, c.in_err-check_renter.ensures.1) (feed_other g.B.Board g.B.M.Mark.kind _ c.requires c.in_err-check_renter.ensures.0)
 
 pub returns-then-frame : goal.returns-then-frame
-returns-then-frame g c = record {
-  same = search rules;
-  kept = g.B.Board.keeps.still _;
-  goes = λ l o s. feed_full g.B.Board.make g.B.M.Mark.kind l o _ _ _ _ s _ c.requires _ _ c.if-frame-renter.false c.if-frame.true;
-}
+returns-then-frame g c = feed_full g.B.Board g.B.M.Mark.kind _ c.requires c.in_ok-check_renter.ensures c.if-frame.true
 
 pub returns-in_err-more : goal.returns-in_err-more
 returns-in_err-more g c = record {
@@ -27,5 +22,5 @@ pub returns : goal.returns
 returns g c = record {
   same = search rules;
   kept = c.in_ok-more.ensures.kept;
-  goes = λ l o s. feed_goes g.B.Board.make g.B.M.Mark.kind l o _ _ _ _ s _ c.requires _ _ _ _ c.if-frame.false _ (omega arith) c.if-frame-renter.false c.in_ok-more.ensures.done;
+  goes = λ l o s. feed_goes g.B.Board.make g.B.M.Mark.kind l o _ _ _ _ s _ c.requires _ _ _ _ c.if-frame.false _ (omega arith) c.in_ok-check_renter.ensures c.in_ok-more.ensures.done;
 }

@@ -1,20 +1,15 @@
 use Rattle.calls.proofs.Arms.{finish_early, finish_goes, finish_other, finish_refused}
 use Rattle.calls.proofs.Screen.finish_open.Goals as goal
 use Rattle.std.proofs.Common.{rules}
+use Rattle.std.proofs.lemmas.Result.{err_from_is_err_and}
 
-pub returns-then-frame-renter : goal.returns-then-frame-renter
-returns-then-frame-renter g c = record {
-  same = search rules;
-  kept = g.B.Board.keeps.still _;
-  goes = λ l o s. finish_other g.B.Board.make g.B.M.Mark.kind l o _ _ _ _ s _ c.requires _ c.if-frame-renter.true;
-}
+pub returns-in_err-check_renter : goal.returns-in_err-check_renter
+returns-in_err-check_renter g c =
+    let p = err_from_is_err_and c.from_residual.result c.from_residual.ensures.1 in
+    rw (p.1, p.2, c.in_err-check_renter.ensures.1) (finish_other g.B.Board g.B.M.Mark.kind _ c.requires c.in_err-check_renter.ensures.0)
 
 pub returns-then-frame : goal.returns-then-frame
-returns-then-frame g c = record {
-  same = search rules;
-  kept = g.B.Board.keeps.still _;
-  goes = λ l o s. finish_early g.B.Board.make g.B.M.Mark.kind l o _ _ _ _ s _ c.requires _ c.if-frame-renter.false c.if-frame.true;
-}
+returns-then-frame g c = finish_early g.B.Board g.B.M.Mark.kind _ c.requires c.in_ok-check_renter.ensures c.if-frame.true
 
 pub returns-in_err-mark : goal.returns-in_err-mark
 returns-in_err-mark g c = record {
@@ -27,5 +22,5 @@ pub returns : goal.returns
 returns g c = record {
   same = search rules;
   kept = c.in_ok-mark.ensures.kept;
-  goes = λ l o s. finish_goes g.B.Board.make g.B.M.Mark.kind l o _ _ _ _ s _ c.requires _ _ _ _ _ c.if-frame-renter.false c.if-frame.false c.in_ok-mark.ensures.done;
+  goes = λ l o s. finish_goes g.B.Board.make g.B.M.Mark.kind l o _ _ _ _ s _ c.requires _ _ _ _ _ c.in_ok-check_renter.ensures c.if-frame.false c.in_ok-mark.ensures.done;
 }
