@@ -13,7 +13,7 @@ use Rattle.method.proofs.Others.{leave_others, stepped_over_others}
 use Rattle.method.specs.Cells.{across, begun, fed, placed, scanned, settled, stepped_over, wiped}
 use Rattle.screen.specs.Schedules.{beginning, dropped_touches, feeding, finishing, frame_touches, wiping}
 use Rattle.method.specs.Theorems.{LeavesOthers}
-use Rattle.screen.proofs.Wholes.{few as few-of, finish_length}
+use Rattle.screen.proofs.Wholes.{finish_length}
 use Rattle.screen.specs.Moving.{Lacks, Moves, NotBegun, a_cell, allowance}
 use Rattle.rule.specs.Words.{first_of, second_of, takes_at}
 use Rattle.rule.specs.declared.table.Rule.{Rule}
@@ -150,7 +150,7 @@ module _ {M X : Type 0} (make : Make X) (kind : Kind M) (cells : List M) (meter 
   -- the count as it is kept is the count
   count_is : (more : ℕ) → more ≤ 11000 → (own.touches + more) % 2 ^ 64 ≡ made_touches n (length f.bytes) + more
   count_is more h =
-      let small = few-of u.fitted.table in
+      let small = rule.fits in
       let c = u.counted in
       let b = u.in_bounds in
       let s = u.short in
@@ -194,7 +194,7 @@ module _ {M X : Type 0} (make : Make X) (kind : Kind M) (cells : List M) (meter 
       feed_underway =
           let size = feed_size in
           let l = length_feeding (first_of rule.words) (second_of rule.words) n in
-          let small = few-of u.fitted.table in
+          let small = rule.fits in
           let c = mv.counted in
           let last = mv.lasts in
           let k : length (f.bytes ++ (byte ∷ [])) ≡ suc (length f.bytes) = length-append f.bytes (byte ∷ []) ∙ omega arith in
@@ -276,7 +276,7 @@ module _ {M X : Type 0} (make : Make X) (kind : Kind M) (cells : List M) (meter 
         let b = u.in_bounds in
         let c = mv.counted in
         let l = finish_length rule.words n in
-        let small = few-of u.fitted.table in
+        let small = rule.fits in
         let k : f.length ≡ length f.bytes = omega arith in
         let count : (own.touches + more) % 2 ^ 64 ≡ frame_touches (end_of a) f.length =
         count_is more (omega arith) ∙ (let z : made_touches n (length f.bytes) + more ≡ frame_touches n (length f.bytes) = omega arith in z) ∙ ap (frame_touches n) (sym k) ∙ ap (λ z. frame_touches z f.length) e in
@@ -309,7 +309,7 @@ module _ {M X : Type 0} (make : Make X) (kind : Kind M) (cells : List M) (meter 
         let e = end_is u.fitted.table in
         let c = mv.counted in
         let l = length_writes (suc n) 0 in
-        let small = few-of u.fitted.table in
+        let small = rule.fits in
         let count : (own.touches + more) % 2 ^ 64 ≡ dropped_touches (end_of a) (length f.bytes) =
         count_is more (omega arith) ∙ (let z : made_touches n (length f.bytes) + more ≡ dropped_touches n (length f.bytes) = omega arith in z) ∙ ap (λ z. dropped_touches z (length f.bytes)) e in
         record {
