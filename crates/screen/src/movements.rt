@@ -4,7 +4,8 @@
 ghost use Rattle.std.specs.Prelude.{◌≡◌, ◌^◌, ◌<◌, if◌then◌else◌};
 ghost use Rattle.method.specs.Cells.{first_mark, source};
 ghost use Rattle.screen.specs.ByRule.{placed_by, placed_with, placing_of, scanned_by, scanning_of, settled_by, settling_of, stepped_by, stepping_of, wiped_by, wiping_of};
-ghost use Rattle.screen.specs.Movements.{ReadOf, RuledMovement, WriteOf};
+ghost use Rattle.screen.specs.Moving.{Admits};
+ghost use Rattle.screen.specs.Movements.{ReadOf, RuledMovement, Starts, WriteOf};
 
 use board::Board;
 use mark::Mark;
@@ -45,12 +46,43 @@ const SCANS: u64 = 2;
 /// What moves a frame's marks: a board, the rule that they move by, and the touches made so far.
 #[derive(Drop)]
 pub(crate) struct Mover<'b, B> {
-    pub(crate) board: &'b mut B,
-    pub(crate) rule: &'b Rule,
+    board: &'b mut B,
+    rule: &'b Rule,
     pub(crate) touches: u64,
 }
 
 impl<'b, B: Board> Mover<'b, B> {
+    /// A mover on the board that it is lent, which has made no touch.
+    pub(crate) fn new(board: &'b mut B, rule: &'b Rule) -> Mover<'b, B>
+        ensures { Starts board.entry rule.now result }
+    {
+        Mover {
+            board,
+            rule,
+            touches: 0,
+        }
+    }
+
+    /// The last cell of a frame.
+    pub(crate) fn last(&self) -> u64
+        ensures { result ≡ self.now.rule.now.last }
+    {
+        u64::from(self.rule.last())
+    }
+
+    /// Whether the board has a cell for each position of the rule, and allows so many touches: else stop 18 or 19.
+    pub(crate) fn admit(&self, touches: u64) -> Result<(), Stop>
+        ensures { Admits B.Board self.now.board.now self.now.rule.now touches result }
+    {
+        if self.last() >= self.board.size() {
+            return Err(Stop::NoCell);
+        }
+        if self.board.allowance() < touches {
+            return Err(Stop::NoAllowance);
+        }
+        Ok(())
+    }
+
     /// Reads a cell, and counts the touch.
     pub(crate) fn read(&mut self, cell: u64) -> Result<B::M, Stop>
         requires { self.old.touches < 2 ^ 32 }
@@ -84,7 +116,7 @@ impl<'b, B: Board> Mover<'b, B> {
         requires { self.old.touches < 2 ^ 16 }
         ensures { RuledMovement B.Board self.old placing_of (placed_with B.M.Mark.kind first) self.new result }
     {
-        for cell in 0..=u64::from(self.rule.last()) {
+        for cell in 0..=self.last() {
             self.write(cell, first_mark(first, cell))?;
         }
         Ok(())
