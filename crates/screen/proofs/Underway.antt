@@ -8,7 +8,7 @@ use Rattle.screen.specs.declared.movements.Mover.{Mover}
 use Rattle.stops.specs.declared.Stop.{Stop}
 
 module _ {B M : Type 0} (board : Ghosts B M) where
-  pub on_still : (m : Mover B) → SameBoard board m m
+  on_still : (m : Mover B) → SameBoard board m m
   on_still m = record { same = refl; ruled = refl; kept = board.keeps.still _ }
 
   pub on_on : {a b c : Mover B} → SameBoard board a b → SameBoard board b c → SameBoard board a c

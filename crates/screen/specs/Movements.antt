@@ -8,7 +8,7 @@ use Rattle.screen.specs.Moving.{Enough, Moves}
 use Rattle.screen.specs.declared.movements.Mover.{Mover}
 use Rattle.stops.specs.declared.Stop.{Stop}
 
--- a mover that is on the board b by a rule, and has made no touch
+-- a mover over the lent board b that goes by this rule and has made no touch
 pub record Starts {B : Type 0} (b : MutBor B) (rule : Rule) (m : Mover B) : Type 0 where
   pub same : m.board.ghost_name ≡ b.ghost_name
   pub lent : m.board.now ≡ b.now
@@ -22,7 +22,7 @@ module _ {B M : Type 0} (board : Ghosts B M) where
   abbrev pub meter_on : Mover B → board.Gauge
   meter_on m = board.meter m.board.now
 
-  -- it has the same rule and is over the same board, which keeps what it keeps
+  -- the mover is over the same board, which keeps what its make keeps, and goes by the same rule
   pub record SameBoard (old new : Mover B) : Type 0 where
     pub same : new.board.ghost_name ≡ old.board.ghost_name
     pub ruled : new.rule ≡ old.rule
