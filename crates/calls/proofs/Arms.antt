@@ -1,21 +1,24 @@
--- The calls of a sound screen, by its state.
-use Rattle.std.proofs.Common.{◌≡◌, ℕ, ◌+◌, ◌-◌, ◌%◌, ◌^◌, ◌<◌, ◌≤◌, ◌≢◌, List, [], length, Some, None, Ok, Err, Option, Result, sym, refl, ◌∙◌, subst, arith}
+-- The calls, by the state of the screen.
+use Rattle.std.proofs.Common.{◌≡◌, ℕ, ◌+◌, ◌-◌, ◌%◌, ◌^◌, ◌<◌, ◌≤◌, ◌≢◌, List, [], length, Some, None, Ok, Err, Option, Result, sym, refl, ap, ◌∙◌, subst, arith}
 use Rattle.board.specs.Boards.{Make}
-use Rattle.conduct.specs.Calls.{Frame, Order, Said, number, stopped, stopped_at, to_begin, to_drop, to_feed, to_finish, to_load, to_meter, verdict}
-use Rattle.conduct.specs.Rules.{Due, begin_too_long, begin_while_open, begin_without_allowance, begin_without_rule, drop_of_another, drop_without_frame, feed_after_the_last, feed_of_another, feed_without_frame, finish_before_the_last, finish_of_another, finish_without_frame, load_while_open, meter_read, none_untouching}
+use Rattle.board.specs.declared.Board.{Ghosts}
+use Rattle.conduct.specs.Calls.{Frame, Order, Said, by_number, number, stopped, stopped_at, to_begin, to_drop, to_feed, to_finish, to_load, to_meter, verdict}
+use Rattle.conduct.specs.Rules.{Due, end_of, begin_too_long, begin_while_open, begin_without_allowance, begin_without_rule, drop_of_another, drop_without_frame, feed_after_the_last, feed_of_another, feed_without_frame, finish_before_the_last, finish_of_another, finish_without_frame, load_accepted, load_of_a_fault, load_too_wide, load_while_open, meter_read, none_untouching}
+use Rattle.language.specs.Faults.{Faulty}
 use Rattle.mark.specs.Limits.{most_bytes}
 use Rattle.mark.specs.Marks.{Kind}
-use Rattle.method.specs.Cells.{begun, fed, wiped}
-use Rattle.screen.specs.Schedules.{beginning, feeding, finishing, frame_touches, wiping}
-use Rattle.screen.specs.Moving.{CarriedOut, ReadOut}
+use Rattle.screen.specs.Schedules.{frame_touches}
+use Rattle.screen.specs.ByRule.{beginning_of, begun_by, fed_by, feeding_of, finishing_of, wiped_by, wiping_of}
+use Rattle.screen.specs.Moving.{Call, ReadingCall}
+use Rattle.stops.specs.Stops.{stop_number}
 use Rattle.rule.specs.Tables.{RuleOf}
-use Rattle.rule.specs.Words.{first_of, second_of, takes_at}
 use Rattle.rule.specs.declared.table.Rule.{Rule}
 use Rattle.calls.proofs.Loading.{end_is, unopened}
 use Rattle.calls.proofs.Stops.{number_no_stop, stop_at_goes, stop_goes}
 use Rattle.calls.proofs.Touching.{begin_done, begin_never, drop_done, drop_never, feed_done, feed_never, finish_done, finish_never}
-use Rattle.calls.specs.Sound.{Fitted, Goes, Sound, Underway}
+use Rattle.calls.specs.Sound.{Conducts, Goes, Sound, Takes}
 use Rattle.calls.specs.Told.{Unopened}
+use Rattle.calls.specs.declared.Screen.{Screen}
 use Rattle.calls.specs.declared.frame.OpenFrame.{OpenFrame}
 use Rattle.calls.specs.declared.frame.State.TheVariants.{Empty, Open, Ready}
 use Rattle.calls.specs.declared.frame.State.{State}
@@ -27,172 +30,220 @@ module _ {M X : Type 0} (make : Make X) (kind : Kind M) where
   due_at {size} {meter} {l} {l'} {o} {o'} {call} {said} e f d =
       subst (λ z. Due make kind size meter z o call said) (sym e) (subst (λ z. Due make kind size meter l' z call said) (sym f) d)
 
-  goes_at : {l l' : Option (List ℕ)} {o o' : Option Frame} {state : State} {rule : Rule} {cells : List M} {meter : X} {call : Order} {said : Said M} {state' : State} {rule' : Rule} {cells' : List M} {meter' : X}
-      → l ≡ l' → o ≡ o' → Goes make kind l' o' state rule cells meter call said state' rule' cells' meter' → Goes make kind l o state rule cells meter call said state' rule' cells' meter'
-  goes_at {l} {l'} {o} {o'} {state} {rule} {cells} {meter} {call} {said} {state'} {rule'} {cells'} {meter'} e f g =
-      subst (λ z. Goes make kind z o state rule cells meter call said state' rule' cells' meter') (sym e)
-      (subst (λ z. Goes make kind l' z state rule cells meter call said state' rule' cells' meter') (sym f) g)
+  goes_at : {l l' : Option (List ℕ)} {o o' : Option Frame} {state : State} {cells : List M} {meter : X} {call : Order} {said : Said M} {state' : State} {cells' : List M} {meter' : X}
+      → l ≡ l' → o ≡ o' → Goes make kind l' o' state cells meter call said state' cells' meter' → Goes make kind l o state cells meter call said state' cells' meter'
+  goes_at {l} {l'} {o} {o'} {state} {cells} {meter} {call} {said} {state'} {cells'} {meter'} e f g =
+      subst (λ z. Goes make kind z o state cells meter call said state' cells' meter') (sym e) (subst (λ z. Goes make kind l' z state cells meter call said state' cells' meter') (sym f) g)
 
-  -- a sound screen's state said otherwise
-  pub sound_at : (l : Option (List ℕ)) (o : Option Frame) (state state' : State) (rule : Rule) (cells : List M) (meter : X) → state ≡ state' → Sound make kind l o state rule cells meter → Sound make kind l o state' rule cells meter
-  sound_at l o state state' rule cells meter e s = subst (λ z. Sound make kind l o z rule cells meter) e s
+module _ {B M : Type 0} (board : Ghosts B M) (kind : Kind M) where
+  -- a call takes a screen where it takes its board and its state
+  pub conducts : {s t : Screen B} {state state' : State} {call : Order} {said : Said M} → t.board.ghost_name ≡ s.board.ghost_name → s.state ≡ state → t.state ≡ state'
+      → Takes board kind s.board.now t.board.now state state' call said → Conducts board kind s t call said
+  conducts {s} {t} {state} {state'} {call} {said} same e f takes = record {
+    same = same;
+    takes = subst (λ z. Takes board kind s.board.now t.board.now z t.state call said) (sym e) (subst (λ z. Takes board kind s.board.now t.board.now state z call said) (sym f) takes);
+  }
 
-  pub goes_from : {l : Option (List ℕ)} {o : Option Frame} {state before : State} {rule : Rule} {cells : List M} {meter : X} {call : Order} {said : Said M} {state' : State} {rule' : Rule} {cells' : List M} {meter' : X}
-      → state ≡ before → Goes make kind l o before rule cells meter call said state' rule' cells' meter' → Goes make kind l o state rule cells meter call said state' rule' cells' meter'
-  goes_from {l} {o} {rule = rule} {cells} {meter} {call} {said} {state'} {rule'} {cells'} {meter'} e g =
-      subst (λ z. Goes make kind l o z rule cells meter call said state' rule' cells' meter') (sym e) g
+  -- the same of a call that changes neither
+  pub unmoved : (s : Screen B) {state : State} {call : Order} {said : Said M} → s.state ≡ state → Takes board kind s.board.now s.board.now state state call said → Conducts board kind s s call said
+  unmoved s e takes = conducts refl e e takes
 
-  -- the same, with the call and what it was told said otherwise
-  pub goes_as : {l : Option (List ℕ)} {o : Option Frame} {state : State} {rule : Rule} {cells : List M} {meter : X} {call call' : Order} {said said' : Said M} {state' : State} {rule' : Rule} {cells' : List M} {meter' : X}
-      → call ≡ call' → said ≡ said' → Goes make kind l o state rule cells meter call' said' state' rule' cells' meter' → Goes make kind l o state rule cells meter call said state' rule' cells' meter'
-  goes_as {l} {o} {state} {rule} {cells} {meter} {call} {call'} {said} {said'} {state'} {rule'} {cells'} {meter'} e f g =
-      subst (λ z. Goes make kind l o state rule cells meter z said state' rule' cells' meter') (sym e)
-      (subst (λ z. Goes make kind l o state rule cells meter call' z state' rule' cells' meter') (sym f) g)
+  module _ (b : B) where
+    abbrev size : ℕ
+    size = length (board.cells b)
 
-  module _ (l : Option (List ℕ)) (o : Option Frame) (state : State) (rule : Rule) (cells : List M) (meter : X) (s : Sound make kind l o state rule cells meter) where
-    -- the stops that follow from the state alone
-    pub begin_empty : (renter m : ℕ) → state ≡ Empty → Goes make kind l o state rule cells meter (to_begin renter m) (stopped 10) state rule cells meter
-    begin_empty renter m e = let (a, b) = at_empty e in stop_goes make kind s (omega arith) (due_at a refl begin_without_rule)
-      where
-        at_empty : state ≡ Empty → (l ≡ None) × (o ≡ None)
-        at_empty e = subst (λ z. Sound make kind l o z rule cells meter) e s
+    abbrev allows : ℕ
+    allows = board.make.allowed size (board.meter b)
 
-    module _ (u : Unopened state) where
-      pub feed_closed : (renter byte : ℕ) → Goes make kind l o state rule cells meter (to_feed renter byte) (stopped 12) state rule cells meter
-      feed_closed renter byte = stop_goes make kind s (omega arith) (due_at refl (unopened make kind l o rule cells meter state u s) feed_without_frame)
+    abbrev DueIn : State → Order → Said M → Type 0
+    DueIn state call said = (l : Option (List ℕ)) (o : Option Frame) → Sound board.make kind l o state (board.cells b) (board.meter b) → Due board.make kind size (board.meter b) l o call said
 
-      pub finish_closed : (renter : ℕ) → Goes make kind l o state rule cells meter (to_finish renter) (stopped 12) state rule cells meter
-      finish_closed renter = stop_goes make kind s (omega arith) (due_at refl (unopened make kind l o rule cells meter state u s) finish_without_frame)
+    -- The calls that stop, and the meter.
+    stays_at : {state : State} {call : Order} {n place : ℕ} → DueIn state call (stopped_at n place) → Takes board kind b b state state call (stopped_at n place)
+    stays_at due = record { kept = board.keeps.still _; goes = λ l o d. stop_at_goes board.make kind d (due l o d) }
 
-      pub drop_closed : (renter : ℕ) → Goes make kind l o state rule cells meter (to_drop renter) (stopped 12) state rule cells meter
-      drop_closed renter = stop_goes make kind s (omega arith) (due_at refl (unopened make kind l o rule cells meter state u s) drop_without_frame)
+    stays : {state : State} {call : Order} {n : ℕ} → n < 18 → DueIn state call (stopped n) → Takes board kind b b state state call (stopped n)
+    stays h due = record { kept = board.keeps.still _; goes = λ l o d. stop_goes board.make kind d h (due l o d) }
 
-    pub meter_goes : (n : ℕ) → n ≡ make.shows (length cells) meter → Goes make kind l o state rule cells meter to_meter (number n) state rule cells meter
-    meter_goes n e = record {
-      done = record {
-        due = subst (λ z. Due make kind (length cells) meter l o to_meter (number z)) (sym e) meter_read;
-        touches = [];
-        makes = none_untouching (λ t. elim t [ ]);
-        moves = refl;
-        sized = refl;
-        left = refl;
+    pub read_meter : (state : State) {n : ℕ} → n ≡ board.make.shows size (board.meter b) → Takes board kind b b state state to_meter (number n)
+    read_meter state e = record {
+      kept = board.keeps.still _;
+      goes = λ l o d. record {
+        done = record {
+          due = subst (λ z. Due board.make kind size (board.meter b) l o to_meter (number z)) (sym e) meter_read;
+          touches = [];
+          makes = none_untouching (λ t. elim t [ ]);
+          moves = refl;
+          sized = refl;
+          left = refl;
+        };
+        sound = d;
+        unchanged = λ a. refl;
+        not_the_boards = λ k x. number_no_stop x;
       };
-      sound = s;
-      unchanged = λ a. (refl, refl);
-      not_the_boards = λ k x. number_no_stop x;
     }
 
-    module _ (e : state ≡ Ready) where
-      ready : (p : List ℕ) × (l ≡ Some p) × (o ≡ None) × Fitted p rule (length cells)
-      ready = subst (λ z. Sound make kind l o z rule cells meter) e s
+    -- Load with no frame open.
+    module _ (state : State) (u : Unopened state) where
+      none : (l : Option (List ℕ)) (o : Option Frame) → Sound board.make kind l o state (board.cells b) (board.meter b) → o ≡ None
+      none l o d = unopened board.make kind l o (board.cells b) (board.meter b) state u d
 
+      module _ {p : List ℕ} where
+        pub load_fault : {n place : ℕ} → Faulty p n place → Takes board kind b b state state (to_load p) (stopped_at n place)
+        load_fault f = stays_at (λ l o d. due_at board.make kind refl (none l o d) (load_of_a_fault f))
+
+        pub load_wide : {n : ℕ} {words : List ℕ} → RuleOf p n words → size ≤ n → Takes board kind b b state state (to_load p) (stopped_at 8 (length p))
+        load_wide r h = stays_at (λ l o d. let e = end_is r in due_at board.make kind refl (none l o d) (load_too_wide r.accepted (omega arith)))
+
+        pub load_goes : {rule : Rule} {n : ℕ} → n ≡ rule.last → RuleOf p rule.last rule.words → n < size → Takes board kind b b state (Ready rule) (to_load p) (number n)
+        load_goes {rule} {n} e r h =
+            let f : end_of r.accepted ≡ n = sym (e ∙ end_is r) in
+            record {
+              kept = board.keeps.still _;
+              goes = λ l o d. record {
+                done = record {
+                  due = due_at board.make kind refl (none l o d) (subst (λ z. Due board.make kind size (board.meter b) l None (to_load p) (number z)) f (load_accepted r.accepted (omega arith)));
+                  touches = [];
+                  makes = none_untouching (λ t. elim t [ ]);
+                  moves = refl;
+                  sized = refl;
+                  left = refl;
+                };
+                sound = (p, refl, none l o d, record { table = r; fits = omega arith });
+                unchanged = λ a. absurd (a by_number);
+                not_the_boards = λ m x. number_no_stop x;
+              };
+            }
+
+    module _ {renter : ℕ} where
+      pub begin_empty : {m : ℕ} → Takes board kind b b Empty Empty (to_begin renter m) (stopped 10)
+      begin_empty = stays (omega arith) (λ l o d. due_at board.make kind d.0 refl begin_without_rule)
+
+      module _ {state : State} (u : Unopened state) where
+        pub feed_closed : {byte : ℕ} → Takes board kind b b state state (to_feed renter byte) (stopped 12)
+        feed_closed = stays (omega arith) (λ l o d. due_at board.make kind refl (unopened board.make kind l o (board.cells b) (board.meter b) state u d) feed_without_frame)
+
+        pub finish_closed : Takes board kind b b state state (to_finish renter) (stopped 12)
+        finish_closed = stays (omega arith) (λ l o d. due_at board.make kind refl (unopened board.make kind l o (board.cells b) (board.meter b) state u d) finish_without_frame)
+
+        pub drop_closed : Takes board kind b b state state (to_drop renter) (stopped 12)
+        drop_closed = stays (omega arith) (λ l o d. due_at board.make kind refl (unopened board.make kind l o (board.cells b) (board.meter b) state u d) drop_without_frame)
+
+    module _ (rule : Rule) where
+      -- Begin.
       module _ (renter m : ℕ) where
-        pub begin_long : most_bytes < m → Goes make kind l o state rule cells meter (to_begin renter m) (stopped 16) state rule cells meter
-        begin_long h = let (p, a, b, fit) = ready in stop_goes make kind s (omega arith) (due_at a b (begin_too_long h))
+        pub begin_long : most_bytes < m → Takes board kind b b (Ready rule) (Ready rule) (to_begin renter m) (stopped 16)
+        begin_long h = stays (omega arith) (λ l o d. let (p, e, f, fit) = d in due_at board.make kind e f (begin_too_long h))
 
-        module _ (all last : ℕ) (is : all ≡ frame_touches last m) (at : last ≡ rule.last) (short : m ≤ most_bytes) where
+        module _ {all last : ℕ} (is : all ≡ frame_touches last m) (at : last ≡ rule.last) (short : m ≤ most_bytes) where
           all_is : all ≡ frame_touches rule.last m
           all_is = subst (λ z. all ≡ frame_touches z m) at is
 
-          pub begin_poor : make.allowed (length cells) meter < all → Goes make kind l o state rule cells meter (to_begin renter m) (stopped 17) state rule cells meter
+          pub begin_poor : allows < all → Takes board kind b b (Ready rule) (Ready rule) (to_begin renter m) (stopped 17)
           begin_poor h =
-              let (p, a, b, fit) = ready in
-              let k : make.allowed (length cells) meter < frame_touches rule.last m = subst (λ z. make.allowed (length cells) meter < z) all_is h in
-              stop_goes make kind s (omega arith)
-              (due_at a b (begin_without_allowance fit.table.accepted short (subst (λ z. make.allowed (length cells) meter < frame_touches z m) (end_is fit.table) k)))
+              stays (omega arith) (λ l o d.
+              let (p, e, f, fit) = d in
+              due_at board.make kind e f (begin_without_allowance fit.table.accepted short (subst (λ z. allows < z) (all_is ∙ ap (λ z. frame_touches z m) (end_is fit.table)) h)))
 
-          module _ (cells' : List M) (meter' : X) (enough : all ≤ make.allowed (length cells) meter) where
-            abbrev Begun : Result ℕ Stop → Type 0
-            Begun r =
-                (pattern : List ℕ) → RuleOf pattern rule.last rule.words
-                → CarriedOut make cells meter rule.last (beginning (first_of rule.words) (second_of rule.words) rule.last) (begun kind (first_of rule.words) (second_of rule.words) (takes_at rule.words) rule.last cells) cells' meter' r
+          module _ (enough : all ≤ allows) where
+            abbrev Begun : B → Result ℕ Stop → Type 0
+            Begun b' r = Call board b rule beginning_of (begun_by kind) b' r
 
-            pub begin_refused : {A : Type 0} (stop : Stop) → Begun (Err stop) → A
-            begin_refused stop f = let (p, a, b, fit) = ready in begin_never make kind cells meter rule p fit renter m (subst (λ z. z ≤ make.allowed (length cells) meter) all_is enough) (f p fit.table)
+            enough_is : frame_touches rule.last m ≤ allows
+            enough_is = subst (λ z. z ≤ allows) all_is enough
 
-            pub begin_goes : (touches : ℕ) → Begun (Ok touches) → Goes make kind l o state rule cells meter (to_begin renter m) (number all) (Open (record { renter = renter; length = m; fed = 0; touches = touches })) rule cells' meter'
-            begin_goes touches f =
-                let (p, a, b, fit) = ready in
-                let (en, mv) = f p fit.table in
-                goes_at a b
-                (subst (λ z. Goes make kind (Some p) None state rule cells meter (to_begin renter m) (number z) (Open (record { renter = renter; length = m; fed = 0; touches = touches })) rule cells' meter') (sym all_is)
-                (begin_done make kind cells meter rule p fit renter m cells' meter' touches short (subst (λ z. z ≤ make.allowed (length cells) meter) all_is enough) mv state))
+            pub begin_refused : {b' : B} (stop : Stop) → Begun b' (Err stop) → Takes board kind b b' (Ready rule) (Ready rule) (to_begin renter m) (stopped (stop_number stop))
+            begin_refused {b'} stop g = record { kept = g.kept; goes = λ l o d. let (p, e, f, fit) = d in begin_never board.make kind (board.cells b) (board.meter b) rule p fit renter m enough_is g.done }
 
-    module _ (own : OpenFrame) (e : state ≡ Open own) where
-      running : (p : List ℕ) × (f : Frame) × (l ≡ Some p) × (o ≡ Some f) × Underway make kind p f own rule cells meter
-      running = subst (λ z. Sound make kind l o z rule cells meter) e s
+            pub begin_goes : {b' : B} (touches : ℕ) → Begun b' (Ok touches) → Takes board kind b b' (Ready rule) (Open rule (record { renter = renter; length = m; fed = 0; touches = touches })) (to_begin renter m) (number all)
+            begin_goes {b'} touches g = record {
+              kept = g.kept;
+              goes = λ l o d.
+                  let (p, e, f, fit) = d in
+                  let (en, mv) = g.done in
+                  goes_at board.make kind e f
+                  (subst (λ z. Goes board.make kind (Some p) None (Ready rule) (board.cells b) (board.meter b) (to_begin renter m) (number z) (Open rule (record { renter = renter; length = m; fed = 0; touches = touches })) (board.cells b') (board.meter b')) (sym all_is)
+                  (begin_done board.make kind (board.cells b) (board.meter b) rule p fit renter m (board.cells b') (board.meter b') touches short enough_is mv (Ready rule)));
+            }
 
-      pub load_open : (p : List ℕ) → Goes make kind l o state rule cells meter (to_load p) (stopped_at 9 0) state rule cells meter
-      load_open p = let (q, f, a, b, u) = running in stop_at_goes make kind s (due_at refl b load_while_open)
+      -- The calls on a frame that is open.
+      module _ (own : OpenFrame) where
+        pub load_open : {p : List ℕ} → Takes board kind b b (Open rule own) (Open rule own) (to_load p) (stopped_at 9 0)
+        load_open = stays_at (λ l o d. let (q, f, e, g, u) = d in due_at board.make kind refl g load_while_open)
 
-      pub begin_open : (renter m : ℕ) → Goes make kind l o state rule cells meter (to_begin renter m) (stopped 11) state rule cells meter
-      begin_open renter m = let (p, f, a, b, u) = running in stop_goes make kind s (omega arith) (due_at a b begin_while_open)
+        module _ (renter : ℕ) where
+          pub begin_open : {m : ℕ} → Takes board kind b b (Open rule own) (Open rule own) (to_begin renter m) (stopped 11)
+          begin_open = stays (omega arith) (λ l o d. let (p, f, e, g, u) = d in due_at board.make kind e g begin_while_open)
 
-      module _ (renter byte : ℕ) where
-        pub feed_other : own.renter ≢ renter → Goes make kind l o state rule cells meter (to_feed renter byte) (stopped 13) state rule cells meter
-        feed_other h = let (p, f, a, b, u) = running in stop_goes make kind s (omega arith) (due_at a b (feed_of_another (λ x. h (u.renter ∙ x))))
+          module _ (other : own.renter ≢ renter) where
+            pub feed_other : {byte : ℕ} → Takes board kind b b (Open rule own) (Open rule own) (to_feed renter byte) (stopped 13)
+            feed_other = stays (omega arith) (λ l o d. let (p, f, e, g, u) = d in due_at board.make kind e g (feed_of_another (λ x. other (u.renter ∙ x))))
 
-        pub feed_full : own.renter ≡ renter → own.length ≤ own.fed → Goes make kind l o state rule cells meter (to_feed renter byte) (stopped 14) state rule cells meter
-        feed_full x h =
-            let (p, f, a, b, u) = running in
-            let q = u.promised in
-            let w = u.fed in
-            stop_goes make kind s (omega arith) (due_at a b (feed_after_the_last (sym u.renter ∙ x) (omega arith)))
+            pub finish_other : Takes board kind b b (Open rule own) (Open rule own) (to_finish renter) (stopped 13)
+            finish_other = stays (omega arith) (λ l o d. let (p, f, e, g, u) = d in due_at board.make kind e g (finish_of_another (λ x. other (u.renter ∙ x))))
 
-        module _ (cells' : List M) (meter' : X) (before : own.fed < own.length) where
-          abbrev Fed : Result ℕ Stop → Type 0
-          Fed r =
-              (pattern : List ℕ) → RuleOf pattern rule.last rule.words
-              → CarriedOut make cells meter rule.last (feeding (first_of rule.words) (second_of rule.words) rule.last) (fed kind (first_of rule.words) (second_of rule.words) (takes_at rule.words) rule.last (own.fed + 1) byte cells) cells' meter' r
+            pub drop_other : Takes board kind b b (Open rule own) (Open rule own) (to_drop renter) (stopped 13)
+            drop_other = stays (omega arith) (λ l o d. let (p, f, e, g, u) = d in due_at board.make kind e g (drop_of_another (λ x. other (u.renter ∙ x))))
 
-          pub feed_refused : {A : Type 0} (stop : Stop) → Fed (Err stop) → A
-          feed_refused stop g = let (p, f, a, b, u) = running in feed_never make kind cells meter rule p f own u renter byte before (g p u.fitted.table)
+          module _ (mine : own.renter ≡ renter) where
+            pub feed_full : {byte : ℕ} → own.length ≤ own.fed → Takes board kind b b (Open rule own) (Open rule own) (to_feed renter byte) (stopped 14)
+            feed_full h = stays (omega arith) (λ l o d.
+                let (p, f, e, g, u) = d in
+                let q = u.promised in
+                let w = u.fed in
+                due_at board.make kind e g (feed_after_the_last (sym u.renter ∙ mine) (omega arith)))
 
-          pub feed_goes : (more : ℕ) → byte < 256 → own.renter ≡ renter → Fed (Ok more)
-              → Goes make kind l o state rule cells meter (to_feed renter byte) (number (own.length - (own.fed + 1))) (Open (record { renter = own.renter; length = own.length; fed = own.fed + 1; touches = (own.touches + more) % 2 ^ 64 })) rule cells' meter'
-          feed_goes more small mine g =
-              let (p, f, a, b, u) = running in
-              let (en, mv) = g p u.fitted.table in
-              goes_at a b (feed_done make kind cells meter rule p f own u renter byte cells' meter' more small mine before mv state _ refl)
+            pub finish_early : own.fed < own.length → Takes board kind b b (Open rule own) (Open rule own) (to_finish renter) (stopped 15)
+            finish_early h = stays (omega arith) (λ l o d.
+                let (p, f, e, g, u) = d in
+                let q = u.promised in
+                let w = u.fed in
+                due_at board.make kind e g (finish_before_the_last (sym u.renter ∙ mine) (omega arith)))
 
-      module _ (renter : ℕ) where
-        pub finish_other : own.renter ≢ renter → Goes make kind l o state rule cells meter (to_finish renter) (stopped 13) state rule cells meter
-        finish_other h = let (p, f, a, b, u) = running in stop_goes make kind s (omega arith) (due_at a b (finish_of_another (λ x. h (u.renter ∙ x))))
+            module _ (byte : ℕ) (before : own.fed < own.length) where
+              abbrev Fed : B → Result ℕ Stop → Type 0
+              Fed b' r = Call board b rule feeding_of (fed_by kind byte (own.fed + 1)) b' r
 
-        pub finish_early : own.renter ≡ renter → own.fed < own.length → Goes make kind l o state rule cells meter (to_finish renter) (stopped 15) state rule cells meter
-        finish_early x h =
-            let (p, f, a, b, u) = running in
-            let q = u.promised in
-            let w = u.fed in
-            stop_goes make kind s (omega arith) (due_at a b (finish_before_the_last (sym u.renter ∙ x) (omega arith)))
+              pub feed_refused : {b' : B} (stop : Stop) → Fed b' (Err stop) → Takes board kind b b' (Open rule own) (Open rule own) (to_feed renter byte) (stopped (stop_number stop))
+              feed_refused {b'} stop g = record { kept = g.kept; goes = λ l o d. let (p, f, e, h, u) = d in feed_never board.make kind (board.cells b) (board.meter b) rule p f own u renter byte before g.done }
 
-        pub drop_other : own.renter ≢ renter → Goes make kind l o state rule cells meter (to_drop renter) (stopped 13) state rule cells meter
-        drop_other h = let (p, f, a, b, u) = running in stop_goes make kind s (omega arith) (due_at a b (drop_of_another (λ x. h (u.renter ∙ x))))
+              pub feed_goes : {b' : B} (more : ℕ) → byte < 256 → Fed b' (Ok more)
+                  → Takes board kind b b' (Open rule own) (Open rule (record { renter = own.renter; length = own.length; fed = own.fed + 1; touches = (own.touches + more) % 2 ^ 64 })) (to_feed renter byte) (number (own.length - (own.fed + 1)))
+              feed_goes {b'} more small g = record {
+                kept = g.kept;
+                goes = λ l o d.
+                    let (p, f, e, h, u) = d in
+                    let (en, mv) = g.done in
+                    goes_at board.make kind e h (feed_done board.make kind (board.cells b) (board.meter b) rule p f own u renter byte (board.cells b') (board.meter b') more small mine before mv (Open rule own) _ refl);
+              }
 
-        module _ (cells' : List M) (meter' : X) where
-          abbrev Finished : Result (M × ℕ) Stop → Type 0
-          Finished r =
-              (pattern : List ℕ) → RuleOf pattern rule.last rule.words
-              → ReadOut make cells meter rule.last (finishing (first_of rule.words) (second_of rule.words) rule.last) (wiped kind.nothing rule.last cells) cells' meter' r
+            abbrev Finished : B → Result (M × ℕ) Stop → Type 0
+            Finished b' r = ReadingCall board b rule finishing_of (wiped_by kind) b' r
 
-          pub finish_refused : {A : Type 0} (stop : Stop) → Finished (Err stop) → A
-          finish_refused stop g = let (p, f, a, b, u) = running in finish_never make kind cells meter rule p f own u renter (g p u.fitted.table)
+            pub finish_refused : {b' : B} (stop : Stop) → Finished b' (Err stop) → Takes board kind b b' (Open rule own) (Open rule own) (to_finish renter) (stopped (stop_number stop))
+            finish_refused {b'} stop g = record { kept = g.kept; goes = λ l o d. let (p, f, e, h, u) = d in finish_never board.make kind (board.cells b) (board.meter b) rule p f own u renter g.done }
 
-          pub finish_goes : (mark : M) (more : ℕ) → own.renter ≡ renter → own.length ≤ own.fed → Finished (Ok (mark, more))
-              → Goes make kind l o state rule cells meter (to_finish renter) (verdict mark ((own.touches + more) % 2 ^ 64)) Ready rule cells' meter'
-          finish_goes mark more mine all g =
-              let (p, f, a, b, u) = running in
-              let (is, en, mv) = g p u.fitted.table in
-              goes_at a b (finish_done make kind cells meter rule p f own u renter state cells' meter' mark more mine all is mv)
+            pub finish_goes : {b' : B} (mark : M) (more : ℕ) → own.length ≤ own.fed → Finished b' (Ok (mark, more))
+                → Takes board kind b b' (Open rule own) (Ready rule) (to_finish renter) (verdict mark ((own.touches + more) % 2 ^ 64))
+            finish_goes {b'} mark more all g = record {
+              kept = g.kept;
+              goes = λ l o d.
+                  let (p, f, e, h, u) = d in
+                  let (is, en, mv) = g.done in
+                  goes_at board.make kind e h (finish_done board.make kind (board.cells b) (board.meter b) rule p f own u renter (Open rule own) (board.cells b') (board.meter b') mark more mine all is mv);
+            }
 
-          abbrev Dropped : Result ℕ Stop → Type 0
-          Dropped r = (pattern : List ℕ) → RuleOf pattern rule.last rule.words → CarriedOut make cells meter rule.last (wiping rule.last) (wiped kind.nothing rule.last cells) cells' meter' r
+            abbrev Dropped : B → Result ℕ Stop → Type 0
+            Dropped b' r = Call board b rule wiping_of (wiped_by kind) b' r
 
-          pub drop_refused : {A : Type 0} (stop : Stop) → Dropped (Err stop) → A
-          drop_refused stop g = let (p, f, a, b, u) = running in drop_never make kind cells meter rule p f own u renter (g p u.fitted.table)
+            pub drop_refused : {b' : B} (stop : Stop) → Dropped b' (Err stop) → Takes board kind b b' (Open rule own) (Open rule own) (to_drop renter) (stopped (stop_number stop))
+            drop_refused {b'} stop g = record { kept = g.kept; goes = λ l o d. let (p, f, e, h, u) = d in drop_never board.make kind (board.cells b) (board.meter b) rule p f own u renter g.done }
 
-          pub drop_goes : (more : ℕ) → own.renter ≡ renter → Dropped (Ok more) → Goes make kind l o state rule cells meter (to_drop renter) (number ((own.touches + more) % 2 ^ 64)) Ready rule cells' meter'
-          drop_goes more mine g =
-              let (p, f, a, b, u) = running in
-              let (en, mv) = g p u.fitted.table in
-              goes_at a b (drop_done make kind cells meter rule p f own u renter state cells' meter' more mine mv)
+            pub drop_goes : {b' : B} (more : ℕ) → Dropped b' (Ok more) → Takes board kind b b' (Open rule own) (Ready rule) (to_drop renter) (number ((own.touches + more) % 2 ^ 64))
+            drop_goes {b'} more g = record {
+              kept = g.kept;
+              goes = λ l o d.
+                  let (p, f, e, h, u) = d in
+                  let (en, mv) = g.done in
+                  goes_at board.make kind e h (drop_done board.make kind (board.cells b) (board.meter b) rule p f own u renter (Open rule own) (board.cells b') (board.meter b') more mine mv);
+            }

@@ -2,4 +2,3 @@ pub mod Stops
 pub mod Loading
 pub mod Touching
 pub mod Arms
-pub mod Told

@@ -5,7 +5,6 @@ use Rattle.conduct.specs.Calls.{Frame, Order, Said, number, stopped, stopped_at,
 use Rattle.conduct.specs.Rules.{Due, none_stopped}
 use Rattle.language.proofs.Option.{clash}
 use Rattle.mark.specs.Marks.{Kind}
-use Rattle.rule.specs.declared.table.Rule.{Rule}
 use Rattle.calls.specs.Sound.{Goes, Sound}
 use Rattle.calls.specs.declared.frame.State.{State}
 
@@ -21,19 +20,19 @@ verdict_no_stop e = clash (cc)
 placed_no_stop : {M A : Type 0} {n p m : ℕ} → ◌≡◌ {A = Said M} (stopped_at n p) (stopped m) → A
 placed_no_stop e = clash (cc)
 
-module _ {M X : Type 0} (make : Make X) (kind : Kind M) {l : Option (List ℕ)} {o : Option Frame} {state : State} {rule : Rule} {cells : List M} {meter : X} (s : Sound make kind l o state rule cells meter) where
-  pub stop_goes : {call : Order} {n : ℕ} → n < 18 → Due make kind (length cells) meter l o call (stopped n) → Goes make kind l o state rule cells meter call (stopped n) state rule cells meter
+module _ {M X : Type 0} (make : Make X) (kind : Kind M) {l : Option (List ℕ)} {o : Option Frame} {state : State} {cells : List M} {meter : X} (s : Sound make kind l o state cells meter) where
+  pub stop_goes : {call : Order} {n : ℕ} → n < 18 → Due make kind (length cells) meter l o call (stopped n) → Goes make kind l o state cells meter call (stopped n) state cells meter
   stop_goes {n = n} h d = record {
     done = record { due = d; touches = []; makes = none_stopped (λ a. elim a [ ]); moves = refl; sized = refl; left = refl };
     sound = s;
-    unchanged = λ a. (refl, refl);
+    unchanged = λ a. refl;
     not_the_boards = λ m e. subst (λ z. z < 18) (same_stop e) h;
   }
 
-  pub stop_at_goes : {call : Order} {n p : ℕ} → Due make kind (length cells) meter l o call (stopped_at n p) → Goes make kind l o state rule cells meter call (stopped_at n p) state rule cells meter
+  pub stop_at_goes : {call : Order} {n p : ℕ} → Due make kind (length cells) meter l o call (stopped_at n p) → Goes make kind l o state cells meter call (stopped_at n p) state cells meter
   stop_at_goes d = record {
     done = record { due = d; touches = []; makes = none_stopped (λ a. elim a [ ]); moves = refl; sized = refl; left = refl };
     sound = s;
-    unchanged = λ a. (refl, refl);
+    unchanged = λ a. refl;
     not_the_boards = λ m e. placed_no_stop e;
   }

@@ -13,7 +13,7 @@ use Rattle.method.proofs.Others.{leave_others, stepped_over_others}
 use Rattle.method.specs.Cells.{across, begun, fed, placed, scanned, settled, stepped_over, wiped}
 use Rattle.screen.specs.Schedules.{beginning, dropped_touches, feeding, finishing, frame_touches, wiping}
 use Rattle.method.specs.Theorems.{LeavesOthers}
-use Rattle.screen.proofs.Wholes.{few as few-of, finish_length}
+use Rattle.screen.proofs.Wholes.{finish_length}
 use Rattle.screen.specs.Moving.{Lacks, Moves, NotBegun, a_cell, allowance}
 use Rattle.rule.specs.Words.{first_of, second_of, takes_at}
 use Rattle.rule.specs.declared.table.Rule.{Rule}
@@ -121,7 +121,7 @@ module _ {M X : Type 0} (make : Make X) (kind : Kind M) (cells : List M) (meter 
           allowed = subst (λ z. rest_touches rule.last z ≤ make.allowed (length cells') meter') (sym all) (omega arith);
         }
 
-    pub begin_done : (state : State) → Goes make kind (Some p) None state rule cells meter (to_begin renter m) (number (frame_touches rule.last m)) (Open (record { renter = renter; length = m; fed = 0; touches = touches })) rule cells' meter'
+    pub begin_done : (state : State) → Goes make kind (Some p) None state cells meter (to_begin renter m) (number (frame_touches rule.last m)) (Open rule (record { renter = renter; length = m; fed = 0; touches = touches })) cells' meter'
     begin_done state =
         let a = fitted.table.accepted in
         let e = end_is fitted.table in
@@ -150,7 +150,7 @@ module _ {M X : Type 0} (make : Make X) (kind : Kind M) (cells : List M) (meter 
   -- the count as it is kept is the count
   count_is : (more : ℕ) → more ≤ 11000 → (own.touches + more) % 2 ^ 64 ≡ made_touches n (length f.bytes) + more
   count_is more h =
-      let small = few-of u.fitted.table in
+      let small = rule.fits in
       let c = u.counted in
       let b = u.in_bounds in
       let s = u.short in
@@ -194,7 +194,7 @@ module _ {M X : Type 0} (make : Make X) (kind : Kind M) (cells : List M) (meter 
       feed_underway =
           let size = feed_size in
           let l = length_feeding (first_of rule.words) (second_of rule.words) n in
-          let small = few-of u.fitted.table in
+          let small = rule.fits in
           let c = mv.counted in
           let last = mv.lasts in
           let k : length (f.bytes ++ (byte ∷ [])) ≡ suc (length f.bytes) = length-append f.bytes (byte ∷ []) ∙ omega arith in
@@ -217,7 +217,7 @@ module _ {M X : Type 0} (make : Make X) (kind : Kind M) (cells : List M) (meter 
             allowed = subst (λ z. rest_touches n (f.length - z) ≤ make.allowed (length cells') meter') (sym k) (omega arith);
           }
 
-      pub feed_done : (state : State) (answer : ℕ) → answer ≡ own.length - (own.fed + 1) → Goes make kind (Some p) (Some f) state rule cells meter (to_feed renter byte) (number answer) (Open now) rule cells' meter'
+      pub feed_done : (state : State) (answer : ℕ) → answer ≡ own.length - (own.fed + 1) → Goes make kind (Some p) (Some f) state cells meter (to_feed renter byte) (number answer) (Open rule now) cells' meter'
       feed_done state answer is =
           let a = u.fitted.table.accepted in
           let e = end_is u.fitted.table in
@@ -255,7 +255,7 @@ module _ {M X : Type 0} (make : Make X) (kind : Kind M) (cells : List M) (meter 
           subst (λ z. LeavesOthers z cells cells') g (subst (LeavesOthers n cells) (sym e) ((leave_others M).wiping kind.nothing n cells)),
         )
 
-    ended : Sound make kind (Some p) None Ready rule cells' meter
+    ended : Sound make kind (Some p) None (Ready rule) cells' meter
     ended = (p, refl, refl, record { table = u.fitted.table; fits = let h = u.fitted.fits in let s = wiped_size in omega arith })
 
   -- Finish.
@@ -266,7 +266,7 @@ module _ {M X : Type 0} (make : Make X) (kind : Kind M) (cells : List M) (meter 
 
     pub finish_done : (state : State) (cells' : List M) (meter' : X) (mark : M) (more : ℕ) → own.renter ≡ renter → own.length ≤ own.fed → mark ≡ get_or cells n mark
         → Moves make cells meter (finishing (first_of rule.words) (second_of rule.words) n) (wiped kind.nothing n cells) cells' meter' more
-        → Goes make kind (Some p) (Some f) state rule cells meter (to_finish renter) (verdict mark ((own.touches + more) % 2 ^ 64)) Ready rule cells' meter'
+        → Goes make kind (Some p) (Some f) state cells meter (to_finish renter) (verdict mark ((own.touches + more) % 2 ^ 64)) (Ready rule) cells' meter'
     finish_done state cells' meter' mark more mine all is mv =
         let a = u.fitted.table.accepted in
         let t = a.tree in
@@ -276,7 +276,7 @@ module _ {M X : Type 0} (make : Make X) (kind : Kind M) (cells : List M) (meter 
         let b = u.in_bounds in
         let c = mv.counted in
         let l = finish_length rule.words n in
-        let small = few-of u.fitted.table in
+        let small = rule.fits in
         let k : f.length ≡ length f.bytes = omega arith in
         let count : (own.touches + more) % 2 ^ 64 ≡ frame_touches (end_of a) f.length =
         count_is more (omega arith) ∙ (let z : made_touches n (length f.bytes) + more ≡ frame_touches n (length f.bytes) = omega arith in z) ∙ ap (frame_touches n) (sym k) ∙ ap (λ z. frame_touches z f.length) e in
@@ -303,13 +303,13 @@ module _ {M X : Type 0} (make : Make X) (kind : Kind M) (cells : List M) (meter 
     drop_never b = let l = length_writes (suc n) 0 in let r = u.allowed in lacks_nothing u.fitted.fits (omega arith) b.lacks
 
     pub drop_done : (state : State) (cells' : List M) (meter' : X) (more : ℕ) → own.renter ≡ renter → Moves make cells meter (wiping n) (wiped kind.nothing n cells) cells' meter' more
-        → Goes make kind (Some p) (Some f) state rule cells meter (to_drop renter) (number ((own.touches + more) % 2 ^ 64)) Ready rule cells' meter'
+        → Goes make kind (Some p) (Some f) state cells meter (to_drop renter) (number ((own.touches + more) % 2 ^ 64)) (Ready rule) cells' meter'
     drop_done state cells' meter' more mine mv =
         let a = u.fitted.table.accepted in
         let e = end_is u.fitted.table in
         let c = mv.counted in
         let l = length_writes (suc n) 0 in
-        let small = few-of u.fitted.table in
+        let small = rule.fits in
         let count : (own.touches + more) % 2 ^ 64 ≡ dropped_touches (end_of a) (length f.bytes) =
         count_is more (omega arith) ∙ (let z : made_touches n (length f.bytes) + more ≡ dropped_touches n (length f.bytes) = omega arith in z) ∙ ap (λ z. dropped_touches z (length f.bytes)) e in
         record {

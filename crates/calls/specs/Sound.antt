@@ -1,12 +1,14 @@
 -- When a screen is sound, and what a call on a sound screen does.
 use Rattle.std.specs.Prelude.{◌≡◌, ℕ, ◌+◌, ◌-◌, ◌*◌, ◌<◌, ◌≤◌, List, length, Some, None, Option}
 use Rattle.board.specs.Boards.{Make}
+use Rattle.board.specs.declared.Board.{Ghosts}
 use Rattle.conduct.specs.Calls.{AcceptedBy, Frame, Order, Said, loaded_after, open_after, stopped}
 use Rattle.conduct.specs.Rules.{Done}
 use Rattle.mark.specs.Limits.{most_bytes}
 use Rattle.mark.specs.Marks.{Kind}
 use Rattle.rule.specs.Tables.{RuleOf}
 use Rattle.rule.specs.declared.table.Rule.{Rule}
+use Rattle.calls.specs.declared.Screen.{Screen}
 use Rattle.calls.specs.declared.frame.OpenFrame.{OpenFrame}
 use Rattle.calls.specs.declared.frame.State.TheVariants.{Empty, Open, Ready}
 use Rattle.calls.specs.declared.frame.State.{State}
@@ -39,15 +41,33 @@ module _ {M X : Type 0} (make : Make X) (kind : Kind M) where
     pub allowed : rest_touches rule.last (f.length - length f.bytes) ≤ make.allowed (length cells) meter
 
   -- A screen is sound, with this pattern loaded and this frame open.
-  abbrev pub Sound : Option (List ℕ) → Option Frame → State → Rule → List M → X → Type 0
-  Sound l o Empty rule cells meter = (l ≡ None) × (o ≡ None)
-  Sound l o Ready rule cells meter = (p : List ℕ) × (l ≡ Some p) × (o ≡ None) × Fitted p rule (length cells)
-  Sound l o (Open own) rule cells meter = (p : List ℕ) × (f : Frame) × (l ≡ Some p) × (o ≡ Some f) × Underway p f own rule cells meter
+  abbrev pub Sound : Option (List ℕ) → Option Frame → State → List M → X → Type 0
+  Sound l o Empty cells meter = (l ≡ None) × (o ≡ None)
+  Sound l o (Ready rule) cells meter = (p : List ℕ) × (l ≡ Some p) × (o ≡ None) × Fitted p rule (length cells)
+  Sound l o (Open rule own) cells meter = (p : List ℕ) × (f : Frame) × (l ≡ Some p) × (o ≡ Some f) × Underway p f own rule cells meter
 
   -- A call is done by the rules, and the screen is sound after it, with what is then loaded and open. One that stops leaves the
-  -- screen's state and rule as they were. No stop of the board's own comes out of it.
-  pub record Goes (l : Option (List ℕ)) (o : Option Frame) (state : State) (rule : Rule) (cells : List M) (meter : X) (call : Order) (said : Said M) (state' : State) (rule' : Rule) (cells' : List M) (meter' : X) : Type 0 where
+  -- screen's state, with its rule, as it was. No stop of the board's own comes out of it.
+  pub record Goes (l : Option (List ℕ)) (o : Option Frame) (state : State) (cells : List M) (meter : X) (call : Order) (said : Said M) (state' : State) (cells' : List M) (meter' : X) : Type 0 where
     pub done : Done make kind l o cells meter call said cells' meter'
-    pub sound : Sound (loaded_after call said l) (open_after call said o) state' rule' cells' meter'
-    pub unchanged : ¬ AcceptedBy said → (state' ≡ state) × (rule' ≡ rule)
+    pub sound : Sound (loaded_after call said l) (open_after call said o) state' cells' meter'
+    pub unchanged : ¬ AcceptedBy said → state' ≡ state
     pub not_the_boards : (n : ℕ) → said ≡ stopped n → n < 18
+
+-- A board of the make, with marks of the kind.
+module _ {B M : Type 0} (board : Ghosts B M) (kind : Kind M) where
+  -- A call takes a board, and the state of the screen over it, from one to the next: the board keeps what its make keeps, and if
+  -- they were sound, the call goes by the rules.
+  pub record Takes (old new : B) (state state' : State) (call : Order) (said : Said M) : Type 0 where
+    pub kept : board.keeps.same old new
+    pub goes : (l : Option (List ℕ)) (o : Option Frame) → Sound board.make kind l o state (board.cells old) (board.meter old)
+        → Goes board.make kind l o state (board.cells old) (board.meter old) call said state' (board.cells new) (board.meter new)
+
+  -- the screen is sound, with this pattern loaded and this frame open
+  abbrev pub SoundScreen : Option (List ℕ) → Option Frame → Screen B → Type 0
+  SoundScreen l o s = Sound board.make kind l o s.state (board.cells s.board.now) (board.meter s.board.now)
+
+  -- what a call makes of a screen: it stays over the same board, and the call takes them to what they are then
+  pub record Conducts (old new : Screen B) (call : Order) (said : Said M) : Type 0 where
+    pub same : new.board.ghost_name ≡ old.board.ghost_name
+    pub takes : Takes old.board.now new.board.now old.state new.state call said

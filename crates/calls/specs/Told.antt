@@ -7,6 +7,7 @@ use Rattle.calls.specs.declared.call.Answer.{Answer}
 use Rattle.calls.specs.declared.call.Call.TheVariants.{Begin, Drop, Feed, Finish, Load, Meter}
 use Rattle.calls.specs.declared.call.Call.{Call}
 use Rattle.calls.specs.declared.call.Refusal.{Refusal}
+use Rattle.calls.specs.declared.frame.OpenFrame.{OpenFrame}
 use Rattle.calls.specs.declared.frame.State.TheVariants.{Empty, Open, Ready}
 use Rattle.calls.specs.declared.frame.State.{State}
 use Rattle.stops.specs.Stops.{stop_number}
@@ -49,5 +50,16 @@ said_verdict (Err s) = stopped (stop_number s)
 -- no frame is open
 abbrev pub Unopened : State → Type 0
 Unopened Empty = Unit {0}
-Unopened Ready = Unit {0}
-Unopened (Open f) = ⊥
+Unopened (Ready rule) = Unit {0}
+Unopened (Open rule f) = ⊥
+
+-- a frame opened in a ready state, and an open one ended; other states stay
+abbrev pub opened : OpenFrame → State → State
+opened f Empty = Empty
+opened f (Ready rule) = Open rule f
+opened f (Open rule g) = Open rule g
+
+abbrev pub closed : State → State
+closed Empty = Empty
+closed (Ready rule) = Ready rule
+closed (Open rule f) = Ready rule

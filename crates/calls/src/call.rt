@@ -1,13 +1,12 @@
 //! Calls as values, and what they are told.
 
-ghost use Rattle.calls.specs.Told.{said, said_at, said_number, said_verdict};
-ghost use Rattle.std.specs.Prelude.{◌≡◌};
+ghost use Rattle.std.specs.Prelude.{◌≡◌, None, Some};
 
 use stops::Stop;
 use syntax::Fault;
 
 /// What is asked of a screen.
-#[derive(Clone, Copy)]
+#[derive(Clone, Copy, Debug, PartialEq, Eq)]
 pub enum Call<'a> {
     /// Read a pattern and make it the rule.
     Load(&'a [u8]),
@@ -24,7 +23,7 @@ pub enum Call<'a> {
 }
 
 /// What an accepted call answers: a number; or of a finish the mark, and the touches made for the frame.
-#[derive(Clone, Copy)]
+#[derive(Clone, Copy, Debug, PartialEq, Eq)]
 pub enum Answer<M> {
     Number(u64),
     Verdict(M, u64),
@@ -37,35 +36,21 @@ pub struct Refusal {
     pub place: Option<usize>,
 }
 
-/// What a load is told.
-pub(crate) fn position<M>(res: Result<u16, Fault>) -> Result<Answer<M>, Refusal>
-    ensures { said result ≡ said_at res }
-{
-    match res {
-        Ok(last) => Ok(Answer::Number(u64::from(last))),
-        Err(fault) => Err(Refusal {
+impl From<Stop> for Refusal {
+    ghost from_gives = { λ stop r. r ≡ record { stop = stop; place = None } };
+
+    fn from(stop: Stop) -> Refusal {
+        Refusal { stop, place: None }
+    }
+}
+
+impl From<Fault> for Refusal {
+    ghost from_gives = { λ fault r. r ≡ record { stop = fault.stop; place = Some fault.place } };
+
+    fn from(fault: Fault) -> Refusal {
+        Refusal {
             stop: fault.stop,
             place: Some(fault.place),
-        }),
-    }
-}
-
-/// What a call that answers a number is told.
-pub(crate) fn number<M>(res: Result<u64, Stop>) -> Result<Answer<M>, Refusal>
-    ensures { said result ≡ said_number res }
-{
-    match res {
-        Ok(number) => Ok(Answer::Number(number)),
-        Err(stop) => Err(Refusal { stop, place: None }),
-    }
-}
-
-/// What a finish is told.
-pub(crate) fn verdict<M>(res: Result<(M, u64), Stop>) -> Result<Answer<M>, Refusal>
-    ensures { said result ≡ said_verdict res }
-{
-    match res {
-        Ok((mark, touches)) => Ok(Answer::Verdict(mark, touches)),
-        Err(stop) => Err(Refusal { stop, place: None }),
+        }
     }
 }

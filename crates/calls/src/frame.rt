@@ -1,7 +1,15 @@
-//! What a screen knows of the frame that is open.
+//! What a screen knows of its rule, and of the frame that is open.
+
+ghost use Rattle.std.specs.Prelude.{◌≡◌, ◌≢◌, MatchResult};
+ghost use Rattle.stops.specs.declared.Stop.TheVariants.{OtherRenter};
+ghost use Rattle.calls.specs.Told.{closed, opened};
+
+use rule::Rule;
+use std::mem;
+use stops::Stop;
 
 /// A frame that is open: whose it is, how many bytes it is to have, how many were fed, and the touches made for it so far.
-#[derive(Clone, Copy)]
+#[derive(Clone, Copy, Debug, PartialEq, Eq)]
 pub struct OpenFrame {
     pub(crate) renter: u8,
     pub(crate) length: u64,
@@ -9,10 +17,45 @@ pub struct OpenFrame {
     pub(crate) touches: u64,
 }
 
-/// A screen is empty, as it is made; ready, with a rule and no frame; or open.
-#[derive(Clone, Copy)]
+impl OpenFrame {
+    /// Whether the frame is a renter's: else stop 13.
+    pub(crate) fn check_renter(self, renter: u8) -> Result<(), Stop>
+        ensures { MatchResult result (λ _. self.renter ≡ renter) (λ stop. (self.renter ≢ renter) × (stop ≡ OtherRenter)) }
+    {
+        if self.renter == renter {
+            Ok(())
+        } else {
+            Err(Stop::OtherRenter)
+        }
+    }
+}
+
+/// A screen is empty, as it is made; ready, with the rule of the last accepted load; or open, with that rule and a frame.
+#[derive(Drop)]
 pub enum State {
     Empty,
-    Ready,
-    Open(OpenFrame),
+    Ready(Rule),
+    Open(Rule, OpenFrame),
+}
+
+impl State {
+    /// Opens a frame in a ready state; another stays.
+    pub(crate) fn open(&mut self, frame: OpenFrame)
+        ensures { self.new ≡ opened frame self.old }
+    {
+        *self = match mem::replace(self, State::Empty) {
+            State::Ready(rule) => State::Open(rule, frame),
+            other => other,
+        };
+    }
+
+    /// Ends the frame of an open state; another stays.
+    pub(crate) fn close(&mut self)
+        ensures { self.new ≡ closed self.old }
+    {
+        *self = match mem::replace(self, State::Empty) {
+            State::Open(rule, _) => State::Ready(rule),
+            other => other,
+        };
+    }
 }

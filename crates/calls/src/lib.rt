@@ -1,4 +1,4 @@
-//! The screen: a rule, a board, and the frame that is open on it. Its six calls test a frame's bytes against the rule's pattern
+//! The screen: a board, a rule, and the frame that is open under it. Its six calls test a frame's bytes against the rule's pattern
 //! one by one, and touch the board the same way whatever the bytes are.
 
 #![tactic(auto)]
@@ -6,31 +6,29 @@
 mod call;
 mod frame;
 
-ghost use Rattle.std.specs.Prelude.{◌≡◌, ℕ, ◌≤◌, List, length, None, Option as Maybe};
-ghost use Rattle.conduct.specs.Calls.{Frame as Opened, to_begin, to_drop, to_feed, to_finish, to_load, to_meter};
+ghost use Rattle.std.specs.Prelude.{◌≡◌, ◌≤◌, length, None, MatchResult};
+ghost use Rattle.conduct.specs.Calls.{number, stopped, to_begin, to_drop, to_feed, to_finish, to_load, to_meter, verdict};
 ghost use Rattle.mark.specs.Limits.{most_bytes};
 ghost use Rattle.screen.specs.Schedules.{frame_touches};
-ghost use Rattle.calls.specs.Sound.{Goes, Sound};
+ghost use Rattle.calls.specs.Sound.{Conducts, SoundScreen, Takes};
 ghost use Rattle.calls.specs.Told.{Unopened, order, said, said_at, said_number, said_verdict};
+ghost use Rattle.calls.specs.declared.frame.State.TheVariants.{Open, Ready};
+ghost use Rattle.stops.specs.Stops.{stop_number};
 
 use board::Board;
 pub use call::{Answer, Call, Refusal};
-use call::{number, position, verdict};
 pub use frame::{OpenFrame, State};
 use mark::MOST_BYTES;
-use rule::{Rule, empty_rule, read};
+use rule::{Rule, read};
 use screen::{begin_cells, feed_cells, finish_cells, wipe_cells};
 use stops::Stop;
 use syntax::Fault;
 
-/// A screen over a board that it is lent.
-#[derive(Drop)]
-pub struct Screen<'b, B> {
-    board: &'b mut B,
-    /// The rule of the last accepted load. Until there is one the state is empty, and no call looks at it.
-    rule: Rule,
-    state: State,
-}
+/// A load while a frame is open is refused at the pattern's first place.
+const LOAD_WHILE_OPEN: Fault = Fault {
+    stop: Stop::LoadWhileOpen,
+    place: 0,
+};
 
 /// The touches of a finished frame of `length` bytes under a rule that ends at `last`.
 fn frame_touches(last: u16, length: u64) -> u64
@@ -41,15 +39,99 @@ fn frame_touches(last: u16, length: u64) -> u64
     10 * (last * length) + 10 * last + 9 * length + 11
 }
 
+/// A screen over a board that it is lent.
+#[derive(Drop)]
+pub struct Screen<'b, B> {
+    board: &'b mut B,
+    state: State,
+}
+
+/// A begin with a rule and no frame: answers the touches of the whole frame, and the frame.
+fn begin_ready<B: Board>(
+    board: &mut B,
+    rule: &Rule,
+    renter: u8,
+    length: u64,
+) -> Result<(u64, OpenFrame), Stop>
+    ensures { MatchResult result (λ r. Takes B.Board B.M.Mark.kind board.old board.new (Ready rule.now) (Open rule.now r.1) (to_begin renter length) (number r.0)) (λ stop. Takes B.Board B.M.Mark.kind board.old board.new (Ready rule.now) (Ready rule.now) (to_begin renter length) (stopped (stop_number stop))) }
+{
+    if length > u64::from(MOST_BYTES) {
+        return Err(Stop::FrameTooLong);
+    }
+    let all = frame_touches(rule.last(), length);
+    if board.allowance() < all {
+        return Err(Stop::AllowanceTooSmall);
+    }
+    let touches = begin_cells(board, rule)?;
+    let frame = OpenFrame {
+        renter,
+        length,
+        fed: 0,
+        touches,
+    };
+    Ok((all, frame))
+}
+
+/// A feed while a frame is open.
+fn feed_open<B: Board>(
+    board: &mut B,
+    rule: &Rule,
+    frame: &mut OpenFrame,
+    renter: u8,
+    byte: u8,
+) -> Result<u64, Stop>
+    ensures { Takes B.Board B.M.Mark.kind board.old board.new (Open rule.now frame.old) (Open rule.now frame.new) (to_feed renter byte) (said_number result) }
+{
+    frame.check_renter(renter)?;
+    if frame.fed >= frame.length {
+        return Err(Stop::AllFed);
+    }
+    let fed = frame.fed + 1;
+    let more = feed_cells(board, rule, byte, fed)?;
+    frame.fed = fed;
+    frame.touches = frame.touches.wrapping_add(more);
+    Ok(frame.length - fed)
+}
+
+/// A finish while a frame is open.
+fn finish_open<B: Board>(
+    board: &mut B,
+    rule: &Rule,
+    frame: OpenFrame,
+    renter: u8,
+) -> Result<(B::M, u64), Stop>
+    ensures { MatchResult result (λ r. Takes B.Board B.M.Mark.kind board.old board.new (Open rule.now frame) (Ready rule.now) (to_finish renter) (verdict r.0 r.1)) (λ stop. Takes B.Board B.M.Mark.kind board.old board.new (Open rule.now frame) (Open rule.now frame) (to_finish renter) (stopped (stop_number stop))) }
+{
+    frame.check_renter(renter)?;
+    if frame.fed < frame.length {
+        return Err(Stop::BytesMissing);
+    }
+    let (mark, more) = finish_cells(board, rule)?;
+    Ok((mark, frame.touches.wrapping_add(more)))
+}
+
+/// A drop while a frame is open.
+fn drop_open<B: Board>(
+    board: &mut B,
+    rule: &Rule,
+    frame: OpenFrame,
+    renter: u8,
+) -> Result<u64, Stop>
+    ensures { MatchResult result (λ touches. Takes B.Board B.M.Mark.kind board.old board.new (Open rule.now frame) (Ready rule.now) (to_drop renter) (number touches)) (λ stop. Takes B.Board B.M.Mark.kind board.old board.new (Open rule.now frame) (Open rule.now frame) (to_drop renter) (stopped (stop_number stop))) }
+{
+    frame.check_renter(renter)?;
+    let more = wipe_cells(board, rule)?;
+    Ok(frame.touches.wrapping_add(more))
+}
+
 impl<'b, B: Board> Screen<'b, B> {
     /// A screen that is empty.
     pub fn new(board: &'b mut B) -> Screen<'b, B>
         ensures lent { (result.board.ghost_name ≡ board.entry.ghost_name) × (result.board.now ≡ board.old) }
-        ensures sound { Sound B.make B.M.Mark.kind None None result.state result.rule (B.cells result.board.now) (B.meter result.board.now) }
+        ensures sound { SoundScreen B.Board B.M.Mark.kind None None result }
     {
         Screen {
             board,
-            rule: empty_rule(),
             state: State::Empty,
         }
     }
@@ -57,9 +139,7 @@ impl<'b, B: Board> Screen<'b, B> {
     /// A load while no frame is open.
     fn load_unopened(&mut self, pattern: &[u8]) -> Result<u16, Fault>
         requires { Unopened self.old.state }
-        ensures same { self.new.board.ghost_name ≡ self.old.board.ghost_name }
-        ensures kept { B.keeps.same self.old.board.now self.new.board.now }
-        ensures goes { (l : Maybe (List ℕ)) (o : Maybe Opened) → Sound B.make B.M.Mark.kind l o self.old.state self.old.rule (B.cells self.old.board.now) (B.meter self.old.board.now) → Goes B.make B.M.Mark.kind l o self.old.state self.old.rule (B.cells self.old.board.now) (B.meter self.old.board.now) (to_load pattern.now) (said_at result) self.new.state self.new.rule (B.cells self.new.board.now) (B.meter self.new.board.now) }
+        ensures { Conducts B.Board B.M.Mark.kind self.old self.new (to_load pattern.now) (said_at result) }
     {
         let rule = read(pattern)?;
         let last = rule.last();
@@ -69,154 +149,67 @@ impl<'b, B: Board> Screen<'b, B> {
                 place: pattern.len(),
             });
         }
-        self.rule = rule;
-        self.state = State::Ready;
+        self.state = State::Ready(rule);
         Ok(last)
-    }
-
-    /// A begin with a rule and no frame.
-    fn begin_ready(&mut self, renter: u8, length: u64) -> Result<u64, Stop>
-        requires { self.old.state ≡ State.Ready }
-        ensures same { self.new.board.ghost_name ≡ self.old.board.ghost_name }
-        ensures kept { B.keeps.same self.old.board.now self.new.board.now }
-        ensures goes { (l : Maybe (List ℕ)) (o : Maybe Opened) → Sound B.make B.M.Mark.kind l o self.old.state self.old.rule (B.cells self.old.board.now) (B.meter self.old.board.now) → Goes B.make B.M.Mark.kind l o self.old.state self.old.rule (B.cells self.old.board.now) (B.meter self.old.board.now) (to_begin renter length) (said_number result) self.new.state self.new.rule (B.cells self.new.board.now) (B.meter self.new.board.now) }
-    {
-        if length > u64::from(MOST_BYTES) {
-            return Err(Stop::FrameTooLong);
-        }
-        let all = frame_touches(self.rule.last(), length);
-        if self.board.allowance() < all {
-            return Err(Stop::AllowanceTooSmall);
-        }
-        let touches = begin_cells(self.board, &self.rule)?;
-        self.state = State::Open(OpenFrame {
-            renter,
-            length,
-            fed: 0,
-            touches,
-        });
-        Ok(all)
-    }
-
-    /// A feed while a frame is open.
-    fn feed_open(&mut self, frame: OpenFrame, renter: u8, byte: u8) -> Result<u64, Stop>
-        requires { self.old.state ≡ State.Open frame }
-        ensures same { self.new.board.ghost_name ≡ self.old.board.ghost_name }
-        ensures kept { B.keeps.same self.old.board.now self.new.board.now }
-        ensures goes { (l : Maybe (List ℕ)) (o : Maybe Opened) → Sound B.make B.M.Mark.kind l o self.old.state self.old.rule (B.cells self.old.board.now) (B.meter self.old.board.now) → Goes B.make B.M.Mark.kind l o self.old.state self.old.rule (B.cells self.old.board.now) (B.meter self.old.board.now) (to_feed renter byte) (said_number result) self.new.state self.new.rule (B.cells self.new.board.now) (B.meter self.new.board.now) }
-    {
-        if frame.renter != renter {
-            return Err(Stop::OtherRenter);
-        }
-        if frame.fed >= frame.length {
-            return Err(Stop::AllFed);
-        }
-        let fed = frame.fed + 1;
-        let more = feed_cells(self.board, &self.rule, byte, fed)?;
-        self.state = State::Open(OpenFrame {
-            renter: frame.renter,
-            length: frame.length,
-            fed,
-            touches: frame.touches.wrapping_add(more),
-        });
-        Ok(frame.length - fed)
-    }
-
-    /// A finish while a frame is open.
-    fn finish_open(&mut self, frame: OpenFrame, renter: u8) -> Result<(B::M, u64), Stop>
-        requires { self.old.state ≡ State.Open frame }
-        ensures same { self.new.board.ghost_name ≡ self.old.board.ghost_name }
-        ensures kept { B.keeps.same self.old.board.now self.new.board.now }
-        ensures goes { (l : Maybe (List ℕ)) (o : Maybe Opened) → Sound B.make B.M.Mark.kind l o self.old.state self.old.rule (B.cells self.old.board.now) (B.meter self.old.board.now) → Goes B.make B.M.Mark.kind l o self.old.state self.old.rule (B.cells self.old.board.now) (B.meter self.old.board.now) (to_finish renter) (said_verdict result) self.new.state self.new.rule (B.cells self.new.board.now) (B.meter self.new.board.now) }
-    {
-        if frame.renter != renter {
-            return Err(Stop::OtherRenter);
-        }
-        if frame.fed < frame.length {
-            return Err(Stop::BytesMissing);
-        }
-        let (mark, more) = finish_cells(self.board, &self.rule)?;
-        self.state = State::Ready;
-        Ok((mark, frame.touches.wrapping_add(more)))
-    }
-
-    /// A drop while a frame is open.
-    fn drop_open(&mut self, frame: OpenFrame, renter: u8) -> Result<u64, Stop>
-        requires { self.old.state ≡ State.Open frame }
-        ensures same { self.new.board.ghost_name ≡ self.old.board.ghost_name }
-        ensures kept { B.keeps.same self.old.board.now self.new.board.now }
-        ensures goes { (l : Maybe (List ℕ)) (o : Maybe Opened) → Sound B.make B.M.Mark.kind l o self.old.state self.old.rule (B.cells self.old.board.now) (B.meter self.old.board.now) → Goes B.make B.M.Mark.kind l o self.old.state self.old.rule (B.cells self.old.board.now) (B.meter self.old.board.now) (to_drop renter) (said_number result) self.new.state self.new.rule (B.cells self.new.board.now) (B.meter self.new.board.now) }
-    {
-        if frame.renter != renter {
-            return Err(Stop::OtherRenter);
-        }
-        let more = wipe_cells(self.board, &self.rule)?;
-        self.state = State::Ready;
-        Ok(frame.touches.wrapping_add(more))
     }
 
     /// Reads a pattern and makes it the rule; answers the number of its last position.
     pub fn load(&mut self, pattern: &[u8]) -> Result<u16, Fault>
-        ensures same { self.new.board.ghost_name ≡ self.old.board.ghost_name }
-        ensures kept { B.keeps.same self.old.board.now self.new.board.now }
-        ensures goes { (l : Maybe (List ℕ)) (o : Maybe Opened) → Sound B.make B.M.Mark.kind l o self.old.state self.old.rule (B.cells self.old.board.now) (B.meter self.old.board.now) → Goes B.make B.M.Mark.kind l o self.old.state self.old.rule (B.cells self.old.board.now) (B.meter self.old.board.now) (to_load pattern.now) (said_at result) self.new.state self.new.rule (B.cells self.new.board.now) (B.meter self.new.board.now) }
+        ensures { Conducts B.Board B.M.Mark.kind self.old self.new (to_load pattern.now) (said_at result) }
     {
-        match self.state {
-            State::Empty | State::Ready => self.load_unopened(pattern),
-            State::Open(_) => Err(Fault {
-                stop: Stop::LoadWhileOpen,
-                place: 0,
-            }),
+        match &self.state {
+            State::Empty | State::Ready(_) => self.load_unopened(pattern),
+            State::Open(..) => Err(LOAD_WHILE_OPEN),
         }
     }
 
     /// Opens a frame of a renter, of so many bytes; answers the touches that it will have made when it is finished.
     pub fn begin(&mut self, renter: u8, length: u64) -> Result<u64, Stop>
-        ensures same { self.new.board.ghost_name ≡ self.old.board.ghost_name }
-        ensures kept { B.keeps.same self.old.board.now self.new.board.now }
-        ensures goes { (l : Maybe (List ℕ)) (o : Maybe Opened) → Sound B.make B.M.Mark.kind l o self.old.state self.old.rule (B.cells self.old.board.now) (B.meter self.old.board.now) → Goes B.make B.M.Mark.kind l o self.old.state self.old.rule (B.cells self.old.board.now) (B.meter self.old.board.now) (to_begin renter length) (said_number result) self.new.state self.new.rule (B.cells self.new.board.now) (B.meter self.new.board.now) }
+        ensures { Conducts B.Board B.M.Mark.kind self.old self.new (to_begin renter length) (said_number result) }
     {
-        match self.state {
+        match &self.state {
             State::Empty => Err(Stop::NoRule),
-            State::Ready => self.begin_ready(renter, length),
-            State::Open(_) => Err(Stop::FrameOpen),
+            State::Ready(rule) => {
+                let (touches, frame) = begin_ready(self.board, rule, renter, length)?;
+                self.state.open(frame);
+                Ok(touches)
+            }
+            State::Open(..) => Err(Stop::FrameOpen),
         }
     }
 
     /// Feeds the next byte of a renter's frame; answers the bytes still to come.
     pub fn feed(&mut self, renter: u8, byte: u8) -> Result<u64, Stop>
-        ensures same { self.new.board.ghost_name ≡ self.old.board.ghost_name }
-        ensures kept { B.keeps.same self.old.board.now self.new.board.now }
-        ensures goes { (l : Maybe (List ℕ)) (o : Maybe Opened) → Sound B.make B.M.Mark.kind l o self.old.state self.old.rule (B.cells self.old.board.now) (B.meter self.old.board.now) → Goes B.make B.M.Mark.kind l o self.old.state self.old.rule (B.cells self.old.board.now) (B.meter self.old.board.now) (to_feed renter byte) (said_number result) self.new.state self.new.rule (B.cells self.new.board.now) (B.meter self.new.board.now) }
+        ensures { Conducts B.Board B.M.Mark.kind self.old self.new (to_feed renter byte) (said_number result) }
     {
-        match self.state {
-            State::Open(frame) => self.feed_open(frame, renter, byte),
-            State::Empty | State::Ready => Err(Stop::NoFrame),
-        }
+        let State::Open(rule, frame) = &mut self.state else {
+            return Err(Stop::NoFrame);
+        };
+        feed_open(self.board, rule, frame, renter, byte)
     }
 
     /// Ends a renter's frame; answers its verdict, and the touches made for it.
     pub fn finish(&mut self, renter: u8) -> Result<(B::M, u64), Stop>
-        ensures same { self.new.board.ghost_name ≡ self.old.board.ghost_name }
-        ensures kept { B.keeps.same self.old.board.now self.new.board.now }
-        ensures goes { (l : Maybe (List ℕ)) (o : Maybe Opened) → Sound B.make B.M.Mark.kind l o self.old.state self.old.rule (B.cells self.old.board.now) (B.meter self.old.board.now) → Goes B.make B.M.Mark.kind l o self.old.state self.old.rule (B.cells self.old.board.now) (B.meter self.old.board.now) (to_finish renter) (said_verdict result) self.new.state self.new.rule (B.cells self.new.board.now) (B.meter self.new.board.now) }
+        ensures { Conducts B.Board B.M.Mark.kind self.old self.new (to_finish renter) (said_verdict result) }
     {
-        match self.state {
-            State::Open(frame) => self.finish_open(frame, renter),
-            State::Empty | State::Ready => Err(Stop::NoFrame),
-        }
+        let State::Open(rule, frame) = &self.state else {
+            return Err(Stop::NoFrame);
+        };
+        let verdict = finish_open(self.board, rule, *frame, renter)?;
+        self.state.close();
+        Ok(verdict)
     }
 
     /// Ends a renter's frame unread; answers the touches made for it.
     pub fn drop(&mut self, renter: u8) -> Result<u64, Stop>
-        ensures same { self.new.board.ghost_name ≡ self.old.board.ghost_name }
-        ensures kept { B.keeps.same self.old.board.now self.new.board.now }
-        ensures goes { (l : Maybe (List ℕ)) (o : Maybe Opened) → Sound B.make B.M.Mark.kind l o self.old.state self.old.rule (B.cells self.old.board.now) (B.meter self.old.board.now) → Goes B.make B.M.Mark.kind l o self.old.state self.old.rule (B.cells self.old.board.now) (B.meter self.old.board.now) (to_drop renter) (said_number result) self.new.state self.new.rule (B.cells self.new.board.now) (B.meter self.new.board.now) }
+        ensures { Conducts B.Board B.M.Mark.kind self.old self.new (to_drop renter) (said_number result) }
     {
-        match self.state {
-            State::Open(frame) => self.drop_open(frame, renter),
-            State::Empty | State::Ready => Err(Stop::NoFrame),
-        }
+        let State::Open(rule, frame) = &self.state else {
+            return Err(Stop::NoFrame);
+        };
+        let touches = drop_open(self.board, rule, *frame, renter)?;
+        self.state.close();
+        Ok(touches)
     }
 
     /// What the board's meter shows.
@@ -228,40 +221,42 @@ impl<'b, B: Board> Screen<'b, B> {
 
     /// A call as a value. What it does follows from the screen's state and the call together.
     pub fn call(&mut self, call: Call<'_>) -> Result<Answer<B::M>, Refusal>
-        ensures same { self.new.board.ghost_name ≡ self.old.board.ghost_name }
-        ensures kept { B.keeps.same self.old.board.now self.new.board.now }
-        ensures goes { (l : Maybe (List ℕ)) (o : Maybe Opened) → Sound B.make B.M.Mark.kind l o self.old.state self.old.rule (B.cells self.old.board.now) (B.meter self.old.board.now) → Goes B.make B.M.Mark.kind l o self.old.state self.old.rule (B.cells self.old.board.now) (B.meter self.old.board.now) (order call.entry) (said result) self.new.state self.new.rule (B.cells self.new.board.now) (B.meter self.new.board.now) }
+        ensures { Conducts B.Board B.M.Mark.kind self.old self.new (order call.entry) (said result) }
     {
         match (&mut self.state, call) {
             (_, Call::Meter) => Ok(Answer::Number(self.board.reading())),
-            (State::Empty, Call::Load(pattern)) => position(self.load_unopened(pattern)),
-            (State::Empty, Call::Begin { .. }) => number(Err(Stop::NoRule)),
-            (State::Empty, Call::Feed { .. }) => number(Err(Stop::NoFrame)),
-            (State::Empty, Call::Finish { .. }) => number(Err(Stop::NoFrame)),
-            (State::Empty, Call::Drop { .. }) => number(Err(Stop::NoFrame)),
-            (State::Ready, Call::Load(pattern)) => position(self.load_unopened(pattern)),
-            (State::Ready, Call::Begin { renter, length }) => number(self.begin_ready(
-                renter, length,
-            )),
-            (State::Ready, Call::Feed { .. }) => number(Err(Stop::NoFrame)),
-            (State::Ready, Call::Finish { .. }) => number(Err(Stop::NoFrame)),
-            (State::Ready, Call::Drop { .. }) => number(Err(Stop::NoFrame)),
-            (State::Open(_), Call::Load(_)) => position(Err(Fault {
-                stop: Stop::LoadWhileOpen,
-                place: 0,
-            })),
-            (State::Open(_), Call::Begin { .. }) => number(Err(Stop::FrameOpen)),
-            (State::Open(frame), Call::Feed { renter, byte }) => {
-                let frame = *frame;
-                number(self.feed_open(frame, renter, byte))
+            (State::Empty, Call::Load(pattern)) => {
+                Ok(Answer::Number(self.load_unopened(pattern)?.into()))
             }
-            (State::Open(frame), Call::Finish { renter }) => {
-                let frame = *frame;
-                verdict(self.finish_open(frame, renter))
+            (State::Empty, Call::Begin { .. }) => Err(Stop::NoRule.into()),
+            (State::Empty, Call::Feed { .. }) => Err(Stop::NoFrame.into()),
+            (State::Empty, Call::Finish { .. }) => Err(Stop::NoFrame.into()),
+            (State::Empty, Call::Drop { .. }) => Err(Stop::NoFrame.into()),
+            (State::Ready(_), Call::Load(pattern)) => {
+                Ok(Answer::Number(self.load_unopened(pattern)?.into()))
             }
-            (State::Open(frame), Call::Drop { renter }) => {
-                let frame = *frame;
-                number(self.drop_open(frame, renter))
+            (State::Ready(rule), Call::Begin { renter, length }) => {
+                let (touches, frame) = begin_ready(self.board, rule, renter, length)?;
+                self.state.open(frame);
+                Ok(Answer::Number(touches))
+            }
+            (State::Ready(_), Call::Feed { .. }) => Err(Stop::NoFrame.into()),
+            (State::Ready(_), Call::Finish { .. }) => Err(Stop::NoFrame.into()),
+            (State::Ready(_), Call::Drop { .. }) => Err(Stop::NoFrame.into()),
+            (State::Open(..), Call::Load(_)) => Err(LOAD_WHILE_OPEN.into()),
+            (State::Open(..), Call::Begin { .. }) => Err(Stop::FrameOpen.into()),
+            (State::Open(rule, frame), Call::Feed { renter, byte }) => {
+                Ok(Answer::Number(feed_open(self.board, rule, frame, renter, byte)?))
+            }
+            (State::Open(rule, frame), Call::Finish { renter }) => {
+                let (mark, touches) = finish_open(self.board, rule, *frame, renter)?;
+                self.state.close();
+                Ok(Answer::Verdict(mark, touches))
+            }
+            (State::Open(rule, frame), Call::Drop { renter }) => {
+                let touches = drop_open(self.board, rule, *frame, renter)?;
+                self.state.close();
+                Ok(Answer::Number(touches))
             }
         }
     }

@@ -3,6 +3,7 @@
 #![tactic(auto)]
 
 mod builder;
+mod show;
 mod table;
 mod word;
 

@@ -2,6 +2,8 @@
 
 #![tactic(auto)]
 
+mod show;
+
 ghost use Rattle.std.specs.Prelude.{◌≡◌, ℕ, ◌+◌, ◌*◌, ◌<◌, ◌≤◌, ◌⊎◌, List, [], ◌∷◌, length, MatchBool, MatchOption};
 ghost use Rattle.syntax.specs.Spelling.{Among, Begins, Digit, Escapes, Special, Spells, Stuck, bare_specials};
 ghost use Rattle.syntax.specs.Reading.{Next};

@@ -4,7 +4,7 @@ use Rattle.runs.proofs.play.Goals as goal
 use Rattle.runs.specs.Playing.{orders, told_of}
 
 pub loop-i-init : goal.loop-i-init
-loop-i-init g c = (playing_none g.B.Board.make g.B.M.Mark.kind _ _ _ _ c.new-screen.ensures.sound, refl, refl, g.B.Board.keeps.still _)
+loop-i-init g c = (playing_none g.B.Board.make g.B.M.Mark.kind _ _ _ c.new-screen.ensures.sound, refl, refl, g.B.Board.keeps.still _)
 
 pub loop-i-preserved : goal.loop-i-preserved
 loop-i-preserved g c =
@@ -13,10 +13,10 @@ loop-i-preserved g c =
     let e = c.min-room.ensures in
     let h : i < length c.args.calls.now = omega arith in
     let k : i < length told = omega arith in (
-      playing_more g.B.Board.make g.B.M.Mark.kind c.args.calls.now told i _ _ _ _ c.loop-i.invariant.0 h k _ c.call.result c.call.ensures.goes,
+      playing_more g.B.Board.make g.B.M.Mark.kind c.args.calls.now told i _ _ _ c.loop-i.invariant.0 h k _ c.call.result c.call.ensures.takes.goes,
       c.call.ensures.same ∙ c.loop-i.invariant.1,
       rest_more told c.args.told.now i c.call.result c.loop-i.invariant.2,
-      g.B.Board.keeps.on _ _ _ c.loop-i.invariant.3 c.call.ensures.kept,
+      g.B.Board.keeps.on _ _ _ c.loop-i.invariant.3 c.call.ensures.takes.kept,
     )
 
 pub returns : goal.returns
@@ -26,7 +26,7 @@ returns g c =
     let lent = c.new-screen.ensures.lent.1 in
     let all =
     playing_all b.make g.B.M.Mark.kind
-    (subst (λ z. Playing b.make g.B.M.Mark.kind (b.cells c.new-screen.result.board.now) (b.meter c.new-screen.result.board.now) (orders (take z c.args.calls.now)) (told_of (take z c.loop-i.told)) c.loop-i.screen.state c.loop-i.screen.rule (b.cells c.loop-i.screen.board.now) (b.meter c.loop-i.screen.board.now)) e c.loop-i.invariant.0) in
+    (subst (λ z. Playing b.make g.B.M.Mark.kind (b.cells c.new-screen.result.board.now) (b.meter c.new-screen.result.board.now) (orders (take z c.args.calls.now)) (told_of (take z c.loop-i.told)) c.loop-i.screen.state (b.cells c.loop-i.screen.board.now) (b.meter c.loop-i.screen.board.now)) e c.loop-i.invariant.0) in
     record {
       kept = subst (b.keeps.same c.args.board.now) (search rules) (subst (λ z. b.keeps.same z c.loop-i.screen.board.now) lent c.loop-i.invariant.3);
       many = c.min-room.ensures;

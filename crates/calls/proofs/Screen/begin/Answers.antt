@@ -1,17 +1,8 @@
-use Rattle.calls.proofs.Arms.{begin_empty, begin_open}
+use Rattle.calls.proofs.Arms.{begin_empty, begin_open, unmoved}
 use Rattle.calls.proofs.Screen.begin.Goals as goal
-use Rattle.std.proofs.Common.{rules}
 
 pub returns-in-Empty : goal.returns-in-Empty
-returns-in-Empty g c = record {
-  same = search rules;
-  kept = g.B.Board.keeps.still _;
-  goes = λ l o s. begin_empty g.B.Board.make g.B.M.Mark.kind l o _ _ _ _ s _ _ c.in-Empty.is;
-}
+returns-in-Empty g c = unmoved g.B.Board g.B.M.Mark.kind _ c.in-Empty.is (begin_empty g.B.Board g.B.M.Mark.kind _)
 
 pub returns-in-Open : goal.returns-in-Open
-returns-in-Open g c = record {
-  same = search rules;
-  kept = g.B.Board.keeps.still _;
-  goes = λ l o s. begin_open g.B.Board.make g.B.M.Mark.kind l o _ _ _ _ s _ c.in-Open.is _ _;
-}
+returns-in-Open g c = unmoved g.B.Board g.B.M.Mark.kind _ c.in-Open.is (begin_open g.B.Board g.B.M.Mark.kind _ _ _ _)

@@ -1,11 +1,7 @@
-use Rattle.calls.proofs.Arms.{drop_closed}
+use Rattle.calls.proofs.Arms.{drop_closed, unmoved}
+use Rattle.calls.proofs.Loading.{not_open}
 use Rattle.calls.proofs.Screen.drop.Goals as goal
-use Rattle.calls.proofs.Told.{closed}
-use Rattle.std.proofs.Common.{rules}
+use Rattle.std.proofs.Common.{refl}
 
-pub returns-in-Empty : goal.returns-in-Empty
-returns-in-Empty g c = record {
-  same = search rules;
-  kept = g.B.Board.keeps.still _;
-  goes = λ l o s. drop_closed g.B.Board.make g.B.M.Mark.kind l o _ _ _ _ s (closed _ c.in-Empty.is) _;
-}
+pub returns-in_default : goal.returns-in_default
+returns-in_default g c = unmoved g.B.Board g.B.M.Mark.kind _ refl (drop_closed g.B.Board g.B.M.Mark.kind _ (not_open _ c.in_default.not-Open))
