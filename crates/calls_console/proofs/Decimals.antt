@@ -21,7 +21,7 @@ value_grows : (v : ℕ) (xs : List ℕ) → v ≤ value_behind v xs
 value_grows v [] = omega arith
 value_grows v (b ∷ xs) = let h : 10 * v + (b - 48) ≤ value_behind (10 * v + (b - 48)) xs = value_grows (10 * v + (b - 48)) xs in omega arith
 
-pub behind_none : {v byte : ℕ} {more : List ℕ} {n : ℕ} → (Digit byte → ⊥) ⊎ (2 ^ 64 ≤ 10 * v + (byte - 48)) → Behind v (byte ∷ more) n → ⊥
+behind_none : {v byte : ℕ} {more : List ℕ} {n : ℕ} → (Digit byte → ⊥) ⊎ (2 ^ 64 ≤ 10 * v + (byte - 48)) → Behind v (byte ∷ more) n → ⊥
 behind_none (inl f) b = f (b.digits 0 (omega arith))
 behind_none {v} {byte} {more} {n} (inr m) b =
     let g = value_grows (10 * v + (byte - 48)) more in
@@ -70,8 +70,3 @@ module _ (word left : List ℕ) (v : ℕ) (some : 0 < length word) (fits : v < 2
   number_found E more (Some x) r l p f =
       let (stops, e) = f x p in
       rw e (λ n d. behind_none stops (subst (λ z. Behind v z n) l ((both n).0 (record { digits = d.digits; value = d.value; fits = d.fits }))))
-
-pub wider : {word : List ℕ} {n : ℕ} → Decimal 8 word n → Decimal 64 word n
-wider {word} {n} d =
-    let f : n < 2 ^ 8 = d.fits in
-    record { some = d.some; digits = d.digits; value = d.value; fits = omega arith }
