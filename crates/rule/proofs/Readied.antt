@@ -1,12 +1,12 @@
 -- What a builder that may take one more unit has room for, and what becomes of it.
-use Rattle.std.proofs.Common.{◌≡◌, ℕ, ◌+◌, ◌%◌, ◌<◌, ◌≤◌, List, [], ◌∷◌, ◌++◌, length, get_or, Some, None, Option, sym, refl, ap, ◌∙◌, subst, inl, arith}
+use Rattle.std.proofs.Common.{◌≡◌, ◌≢◌, ℕ, ◌+◌, ◌%◌, ◌<◌, ◌≤◌, List, [], ◌∷◌, ◌++◌, length, get_or, Some, None, Option, sym, refl, ap, ◌∙◌, subst, inl, arith, get_or-set_other}
 use Rattle.language.proofs.Settled.{settled}
 use Rattle.language.specs.Faults.{Before, Refused, a_close, a_sign, no_operand, nothing_open, operand, sign, sign_after_sign, start, too_deep}
 use Rattle.language.specs.Limits.{most_groups, most_units}
 use Rattle.language.specs.Links.{Predecessors}
 use Rattle.rule.proofs.Stood.{top}
 use Rattle.rule.specs.Growing.{Sofar}
-use Rattle.rule.specs.Standing.{OpenedLast, Ready, Room, Stands, Took, before_of}
+use Rattle.rule.specs.Standing.{LaidDown, OpenedLast, Ready, Room, Stands, Took, before_of}
 use Rattle.rule.specs.Words.{Holds, Position, Under}
 use Rattle.rule.specs.declared.builder.Builder.{Builder}
 use Rattle.rule.specs.declared.builder.Last.TheVariants as last
@@ -53,16 +53,30 @@ module _ (b : Builder) (us : List PatternUnit) (os : List ℕ) (x : Before) (s :
   pub is_shallow : b.depth ≤ most_groups → length os < most_groups
   is_shallow h = let d = s.depth in let o = s.opens in omega arith
 
-pub start_low : (b : Builder) (r : Ready b) → b.last ≡ last.Operand → b.start < b.count
+start_low : (b : Builder) (r : Ready b) → b.last ≡ last.Operand → b.start < b.count
 start_low b r e = (as_operand b r.us r.os r.x r.stands e).grown.repeats.before
 
-pub start_word : (b : Builder) (r : Ready b) → b.last ≡ last.Operand → get_or b.words b.start 0 % 0x400 ≡ 1023
+-- an operand starts at a word with one predecessor at most
+start_word : (b : Builder) (r : Ready b) → b.last ≡ last.Operand → get_or b.words b.start 0 % 0x400 ≡ 1023
 start_word b r e =
     let g = (as_operand b r.us r.os r.x r.stands e).grown in
     let q = b.start in
     let l = g.laid q g.repeats.before in
     let (c, f) = g.repeats.single in
     subst (λ z. Holds (get_or b.words q 0 % 0x400) z) (settled (Sofar (Open ∷ r.us)) q l.first l.second c None l.predecessors f).1 l.says.second_bits
+
+-- and a word laid at the end leaves it so
+pub start_kept : (b l : Builder) {u : PatternUnit} {own : Option ℕ} → LaidDown b u own l → Ready b → b.last ≡ last.Operand → get_or l.words b.start 0 % 0x400 ≡ 1023
+start_kept b l d r e =
+    let low = start_low b r e in
+    let ne : b.start ≢ b.count = omega arith in
+    ap (λ z. get_or z.words b.start 0 % 0x400) d.is ∙ ap (λ z. z % 0x400) (get_or-set_other b.words b.count b.start d.word 0 ne) ∙ start_word b r e
+
+pub room_of : (b : Builder) → Ready b → Room b
+room_of b r = let few = r.few in room_at b r.us r.os r.x r.stands (omega arith)
+
+pub bar_of : (b : Builder) → Ready b → Position (OpenedLast b).bar
+bar_of b r = let few = r.few in bar_at b r.us r.os r.x r.stands (omega arith)
 
 pub is_closed : (b : Builder) (us : List PatternUnit) (os : List ℕ) (x : Before) → Stands b us os x → b.depth ≤ 1 → Refused Close os x 3
 is_closed b us [] x s h = nothing_open

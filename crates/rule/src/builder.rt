@@ -68,10 +68,7 @@ fn field(predecessor: Option<u16>) -> u32
     requires { Position predecessor }
     ensures { Holds result predecessor }
 {
-    match predecessor {
-        Some(position) => u32::from(position),
-        None => ABSENT,
-    }
+    predecessor.map_or(ABSENT, u32::from)
 }
 
 /// The word of an entry.
@@ -79,8 +76,8 @@ fn word_of(entry: Entry) -> u32
     requires { (Position entry.first) × (Position entry.second) }
     ensures { Says result entry.kind entry.byte entry.first entry.second }
 {
-    let fields = field(entry.first) * 0x400 + field(entry.second);
-    u32::from(entry.kind) * 0x1000_0000 + u32::from(entry.byte) * 0x10_0000 + fields
+    let fields = (field(entry.first) << 10) + field(entry.second);
+    (u32::from(entry.kind) << 28) + (u32::from(entry.byte) << 20) + fields
 }
 
 /// The two, the smaller first, an only one first.
@@ -88,10 +85,8 @@ fn in_order(a: Option<u16>, b: Option<u16>) -> (Option<u16>, Option<u16>)
     ensures { (result.0 ≡ firsts a b) × (result.1 ≡ seconds a b) }
 {
     match (a, b) {
-        (Some(i), Some(j)) if i < j => (Some(i), Some(j)),
-        (Some(i), Some(j)) => (Some(j), Some(i)),
-        (Some(i), None) => (Some(i), None),
-        (None, _) => (b, None),
+        (Some(i), Some(j)) => (Some(i.min(j)), Some(i.max(j))),
+        _ => (a.or(b), None),
     }
 }
 
@@ -100,8 +95,8 @@ fn with_last(old: u32, position: u16) -> u32
     requires { (position < absent) × (old % 0x400 ≡ absent) }
     ensures { (kind : Kind) (byte : ℕ) (first : Maybe ℕ) → Under first position → Says old kind byte first None → Says result kind byte (firsts first (Some position)) (seconds first (Some position)) }
 {
-    if (old / 0x400) % 0x400 == ABSENT {
-        old - ABSENT * 0x400 + u32::from(position) * 0x400
+    if (old >> 10) & 0x3ff == ABSENT {
+        old - (ABSENT << 10) + (u32::from(position) << 10)
     } else {
         old - ABSENT + u32::from(position)
     }
@@ -112,20 +107,14 @@ fn skipped_from(sign: Sign, start: u16) -> Option<u16>
     requires { start < absent }
     ensures { (result ≡ skip_of sign start) × Position result }
 {
-    match sign {
-        Sign::Star | Sign::Opt => Some(start),
-        Sign::Plus => None,
-    }
+    matches!(sign, Sign::Star | Sign::Opt).then_some(start)
 }
 
 /// Whether a repeat sign links back to its operand.
 fn leads_back(sign: Sign) -> bool
     ensures { result ≡ loops_back sign }
 {
-    match sign {
-        Sign::Star | Sign::Plus => true,
-        Sign::Opt => false,
-    }
+    matches!(sign, Sign::Star | Sign::Plus)
 }
 
 impl Builder {
@@ -160,10 +149,7 @@ impl Builder {
         ensures { MatchResult result (λ _. self.now.count ≤ most_units) (λ f. (most_units < self.now.count) × (stop_number f.stop ≡ 1) × (f.place ≡ place)) }
     {
         if self.count > MOST_UNITS {
-            return Err(Fault {
-                stop: Stop::TooLong,
-                place,
-            });
+            return Err(Fault::at(Stop::TooLong, place));
         }
         Ok(())
     }
@@ -195,7 +181,7 @@ impl Builder {
 
     /// Takes a letter.
     fn letter(&mut self, letter: Letter)
-        requires { Room self.old }
+        requires { Ready self.old }
         ensures { (us : List Written) (os : List ℕ) (x : Before) → Stands self.old us os x → Stands self.new (us ++ (Plain letter ∷ [])) os operand }
     {
         let position = self.count;
@@ -207,7 +193,7 @@ impl Builder {
 
     /// Takes a `(` at a place.
     fn open_group(&mut self, place: usize)
-        requires { (Room self.old) × (self.old.depth ≤ most_groups) }
+        requires { (Ready self.old) × (self.old.depth ≤ most_groups) }
         ensures { (us : List Written) (os : List ℕ) (x : Before) → length os < most_groups → Stands self.old us os x → Stands self.new (us ++ (Open ∷ [])) (place ∷ os) start }
     {
         let position = self.count;
@@ -225,7 +211,7 @@ impl Builder {
 
     /// Takes a `)`.
     fn close_group(&mut self)
-        requires { (Room self.old) × ((0 < self.old.depth) × ((self.old.depth ≤ most_groups + 1) × (Position (OpenedLast self.old).bar))) }
+        requires { Ready self.old }
         ensures { (us : List Written) (o : ℕ) (os : List ℕ) (x : Before) → Stands self.old us (o ∷ os) x → Stands self.new (us ++ (Close ∷ [])) os operand }
     {
         let position = self.count;
@@ -239,7 +225,7 @@ impl Builder {
 
     /// Takes a `|`.
     fn bar(&mut self)
-        requires { (Room self.old) × ((0 < self.old.depth) × ((self.old.depth ≤ most_groups + 1) × (Position (OpenedLast self.old).bar))) }
+        requires { Ready self.old }
         ensures { (us : List Written) (os : List ℕ) (x : Before) → Stands self.old us os x → Stands self.new (us ++ (Bar ∷ [])) os start }
     {
         let position = self.count;
@@ -253,7 +239,7 @@ impl Builder {
 
     /// Takes a repeat sign behind its operand.
     fn repeat(&mut self, sign: Sign)
-        requires { (Room self.old) × ((self.old.start < self.old.count) × (slice_index self.old.words self.old.start % 0x400 ≡ absent)) }
+        requires { (Ready self.old) × (self.old.last ≡ Last.Operand) }
         ensures { (us : List Written) (os : List ℕ) → Stands self.old us os operand → Stands self.new (us ++ (Repeat sign ∷ [])) os after_sign }
     {
         let position = self.count;
@@ -274,34 +260,20 @@ impl Builder {
         let place = placed.place;
         match placed.unit {
             PatternUnit::Plain(letter) => self.letter(letter),
-            PatternUnit::Open => {
-                if self.depth > MOST_GROUPS {
-                    return Err(Fault {
-                        stop: Stop::TooDeep,
-                        place,
-                    });
-                }
-                self.open_group(place);
-            }
+            PatternUnit::Open if self.depth > MOST_GROUPS => return Err(Fault::at(
+                Stop::TooDeep,
+                place,
+            )),
+            PatternUnit::Open => self.open_group(place),
             PatternUnit::Bar => self.bar(),
-            PatternUnit::Close => {
-                if self.depth <= 1 {
-                    return Err(Fault {
-                        stop: Stop::NothingOpen,
-                        place,
-                    });
-                }
-                self.close_group();
-            }
+            PatternUnit::Close if self.depth <= 1 => return Err(Fault::at(
+                Stop::NothingOpen,
+                place,
+            )),
+            PatternUnit::Close => self.close_group(),
             PatternUnit::Repeat(sign) => match self.last {
-                Last::Start => return Err(Fault {
-                    stop: Stop::NoOperand,
-                    place,
-                }),
-                Last::Sign => return Err(Fault {
-                    stop: Stop::SignAfterSign,
-                    place,
-                }),
+                Last::Start => return Err(Fault::at(Stop::NoOperand, place)),
+                Last::Sign => return Err(Fault::at(Stop::SignAfterSign, place)),
                 Last::Operand => self.repeat(sign),
             },
         }
@@ -310,14 +282,10 @@ impl Builder {
 
     /// The place of the innermost `(` whose group is still open.
     fn open_place(&self) -> Option<usize>
-        requires { (0 < self.now.depth) × (self.now.depth ≤ most_groups + 1) }
+        requires { (bytes : List ℕ) × ReadTo bytes self.now }
         ensures { MatchOption result (self.now.depth ≡ 1) (λ p. (1 < self.now.depth) × (p ≡ (OpenedLast self.now).place)) }
     {
-        if self.depth > 1 {
-            Some(self.groups[self.depth - 1].place)
-        } else {
-            None
-        }
+        (self.depth > 1).then_some(self.groups[self.depth - 1].place)
     }
 
     /// Adds the CLOSE and the END: the rule of a pattern whose units the builder has taken.
@@ -370,11 +338,8 @@ pub fn read(pattern: &[u8]) -> Result<Rule, Fault>
     ensures exactly { MatchResult result (λ _. NoFault pattern.now) (λ f. OnlyFault pattern.now (stop_number f.stop) f.place) }
 {
     let builder = read_units(pattern)?;
-    if let Some(place) = builder.open_place() {
-        return Err(Fault {
-            stop: Stop::LeftOpen,
-            place,
-        });
+    match builder.open_place() {
+        Some(place) => Err(Fault::at(Stop::LeftOpen, place)),
+        None => Ok(builder.finish()),
     }
-    Ok(builder.finish())
 }

@@ -112,14 +112,14 @@ pub(crate) const ABSENT: u32 = 1023;
 fn kind_in(word: u32) -> Result<Kind, UnknownKind>
     ensures { Numbered (word / 0x1000_0000) result }
 {
-    Kind::try_from(word / 0x1000_0000)
+    Kind::try_from(word >> 28)
 }
 
 /// The byte in a word.
 fn byte_in(word: u32) -> u8
     ensures { result ≡ (word / 0x10_0000) % 0x100 }
 {
-    ((word / 0x10_0000) % 0x100) as u8
+    ((word >> 20) & 0xff) as u8
 }
 
 /// The predecessor in ten bits.
@@ -134,10 +134,7 @@ fn predecessor(field: u32) -> Option<u16>
 pub(crate) fn predecessors(word: u32) -> (Option<u16>, Option<u16>)
     ensures { (result.0 ≡ first_in word) × (result.1 ≡ second_in word) }
 {
-    (
-        predecessor((word / 0x400) % 0x400),
-        predecessor(word % 0x400),
-    )
+    (predecessor((word >> 10) & 0x3ff), predecessor(word & 0x3ff))
 }
 
 /// Whether a word takes a byte.

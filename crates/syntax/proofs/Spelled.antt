@@ -1,10 +1,8 @@
 -- What the tests of the reader say of the bytes.
-use Rattle.std.proofs.Common.{◌≡◌, ℕ, ◌+◌, ◌-◌, ◌*◌, ◌<◌, ◌≤◌, ◌⊎◌, List, [], ◌∷◌, ◌++◌, length, get_or, take, drop, Some, None, Option, sym, refl, ap, ◌∙◌, subst, inl, inr, arith, length-append, length-drop, take_all, drop-drop, MatchOption}
-use Rattle.syntax.specs.Reading.{Passed}
+use Rattle.std.proofs.Common.{◌≡◌, ℕ, ◌+◌, ◌-◌, ◌*◌, ◌≤◌, ◌⊎◌, List, [], ◌∷◌, length, get_or, take, drop, Some, None, Option, sym, refl, ap, ◌∙◌, subst, inl, inr, arith, length-drop, take_all, MatchOption}
 use Rattle.syntax.specs.declared.Letter.TheVariants.{Byte}
 use Rattle.syntax.specs.declared.PatternUnit.TheVariants.{Plain}
-use Rattle.syntax.specs.declared.PatternUnit.{PatternUnit}
-use Rattle.syntax.specs.Spelling.{Among, Special, Digit, Spells, escaped, coded, Escapes, of_special, of_digits, Stuck, backslash, bare, bare_specials, Begins}
+use Rattle.syntax.specs.Spelling.{Among, Special, Digit, escaped, coded, Escapes, of_special, of_digits, Stuck, backslash, bare, bare_specials, Begins}
 
 pub rest_of : (k : ℕ) (xs : List ℕ) → take (length xs - k) (drop k xs) ≡ drop k xs
 rest_of k xs = take_all (length xs - k) (drop k xs) (simp length-drop (omega arith))
@@ -47,13 +45,6 @@ escaped_begins xs h a s = record {
   splits = let s = split_2 xs h in let r = rest_of 2 xs in cc;
 }
 
-pub lone_begins : (xs : List ℕ) (m : PatternUnit) → 1 ≤ length xs → Spells (get_or xs 0 0 ∷ []) m → Begins xs m (take (length xs - 1) (drop 1 xs))
-lone_begins xs m h s = record {
-  spelling = get_or xs 0 0 ∷ [];
-  spells = s;
-  splits = let s = split_1 xs h in let r = rest_of 1 xs in cc;
-}
-
 -- the two escapes, ruled out one by one
 ruled_out : (xs : List ℕ) {rest : List ℕ}
     → (2 ≤ length xs → get_or xs 0 0 ≡ 92 → Special (get_or xs 1 0) → ⊥)
@@ -85,35 +76,3 @@ stuck_bare xs h n (inr a) = stuck_as xs (get_or xs 0 0 ∷ drop 1 xs) (split_1 x
 pub none_is : {X : Type 0} (P P' : Type 0) (Q : X → Type 0) (o : Option X) → MatchOption o P Q → (P → P') → MatchOption o P' Q
 none_is P P' Q None c f = f c
 none_is P P' Q (Some x) c f = c
-
-drop_front : (w rest : List ℕ) → drop (length w) (w ++ rest) ≡ rest
-drop_front [] rest = refl
-drop_front (x ∷ w) rest = drop_front w rest
-
-drop_past : (p k : ℕ) (xs : List ℕ) → drop (p + k) xs ≡ drop k (drop p xs)
-drop_past p k xs = sym (drop-drop k p xs)
-
-module _ (xs : List ℕ) (p : ℕ) (h : p < length xs) (m : PatternUnit) (rest : List ℕ) (b : Begins (take (length xs - p) (drop p xs)) m rest) where
-  whole : drop p xs ≡ b.spelling ++ rest
-  whole = sym (rest_of p xs) ∙ b.splits
-
-  lengths : length xs - p ≡ length b.spelling + length rest
-  lengths = sym (length-drop p xs) ∙ ap length whole ∙ length-append b.spelling rest
-
-  pub rest_fits : length rest ≤ length xs
-  rest_fits = omega (arith, lengths)
-
-  end : length xs - length rest ≡ p + length b.spelling
-  end = omega (arith, lengths)
-
-  behind : drop (length xs - length rest) xs ≡ rest
-  behind = ap (λ z. drop z xs) end ∙ drop_past p (length b.spelling) xs ∙ ap (drop (length b.spelling)) whole ∙ drop_front b.spelling rest
-
-  pub passed : Passed xs p m (length xs - length rest)
-  passed = record {
-    spelling = b.spelling;
-    spells = b.spells;
-    splits = whole ∙ ap (λ z. b.spelling ++ z) (sym behind);
-    ends = end;
-    within = omega arith;
-  }

@@ -49,6 +49,15 @@ pub struct Fault {
     pub place: usize,
 }
 
+impl Fault {
+    /// A stop that names a place.
+    pub fn at(stop: Stop, place: usize) -> Fault
+        ensures { (result.stop ≡ stop) × (result.place ≡ place) }
+    {
+        Fault { stop, place }
+    }
+}
+
 fn is_special(b: u8) -> bool
     ensures { MatchBool result (Special b) (Special b → ⊥) }
 {
@@ -148,10 +157,7 @@ impl<'a> Reader<'a> {
             return Ok(None);
         }
         let Some((unit, rest)) = first_unit(&pattern[place..]) else {
-            return Err(Fault {
-                stop: Stop::NoUnit,
-                place,
-            });
+            return Err(Fault::at(Stop::NoUnit, place));
         };
         self.place = pattern.len() - rest.len();
         Ok(Some(Placed { unit, place }))

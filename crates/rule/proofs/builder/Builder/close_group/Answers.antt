@@ -1,5 +1,9 @@
+use Rattle.rule.proofs.Readied.{bar_of, room_of}
 use Rattle.rule.proofs.Stood.{stood_close}
 use Rattle.rule.proofs.builder.Builder.close_group.Goals as goal
 
+pub lay-requires : goal.lay-requires
+lay-requires c = (room_of c.args.self.now c.requires, bar_of c.args.self.now c.requires)
+
 pub returns : goal.returns
-returns c us o os x s = stood_close c.args.self.now c.lay.new.self c.lay.ensures c.requires.0 us o os x s
+returns c us o os x s = stood_close c.args.self.now c.lay.new.self c.lay.ensures (room_of c.args.self.now c.requires) us o os x s
