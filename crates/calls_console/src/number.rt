@@ -20,11 +20,7 @@ pub(crate) fn number(word: &[u8]) -> Option<u64>
     if word.is_empty() {
         return None;
     }
-    let mut value = 0;
-    for b in word {
-        value = with_digit(value, *b)?;
-    }
-    Some(value)
+    word.iter().try_fold(0, |value, b| with_digit(value, *b))
 }
 
 /// The number of a renter: decimal digits whose value fits 8 bits.

@@ -1,30 +1,13 @@
-use Rattle.std.proofs.Common.{◌+◌, ◌<◌, ◌≤◌, length, drop, sym, ap, ◌∙◌, arith, rules, below_more}
-use Rattle.calls_console.proofs.Decimals.{no_decimal, value_all, value_more}
+use Rattle.std.proofs.Common.{◌≡◌, ℕ, rules, tests, arith, MatchOption, subst}
 use Rattle.calls_console.proofs.number.number.Goals as goal
-use Rattle.calls_console.specs.Numbers.{value_behind}
-
-pub returns-in_err-value : goal.returns-in_err-value
-returns-in_err-value c = rw c.from_residual.ensures (no_decimal c.args.word.now c.loop-b.value c.loop-b.b-index (omega arith) c.loop-b.invariant.1 c.in_err-value.ensures)
-
-pub loop-b-preserved : goal.loop-b-preserved
-loop-b-preserved c =
-    let xs = c.args.word.now in
-    let i = c.loop-b.b-index in
-    let f = c.in_ok-value.ensures in
-    let h : i < length xs = omega arith in (
-      below_more _ _ c.loop-b.invariant.0 f.0,
-      c.loop-b.invariant.1 ∙ value_more xs c.loop-b.value i h ∙ ap (λ z. value_behind z (drop (i + 1) xs)) (sym f.1),
-      f.2,
-    )
+use Rattle.calls_console.proofs.Decimals.{behind_turns, number_found}
+use Rattle.calls_console.specs.Numbers.{Decimal}
+use Rattle.std.specs.Slice.Iter.{iter_rest}
 
 pub returns : goal.returns
 returns c =
-    let xs = c.args.word.now in
-    let i = c.loop-b.b-index in
-    let h : length xs ≤ i = omega arith in
-    record {
-      some = search rules;
-      digits = λ k l. c.loop-b.invariant.0 k (omega arith);
-      value = sym (c.loop-b.invariant.1 ∙ value_all xs c.loop-b.value i h);
-      fits = c.loop-b.invariant.2;
-    }
+    let (xs, o, f, v, (s, ys, last), turns, end) = c.try_fold.ensures.ran in
+    let (fits, both) = behind_turns _ (λ p q v w x k. search (rules, tests)) xs c.iter.result s _ f 0 v (omega arith) ys turns in
+    let e : iter_rest c.iter.result ≡ c.args.word.now = cc in
+    subst (λ z. MatchOption c.try_fold.result ((n : ℕ) → Decimal 64 z n → ⊥) (λ n. Decimal 64 z n)) e
+    (number_found (iter_rest c.iter.result) (iter_rest s) v (search rules) fits both _ _ o c.try_fold.result last end (λ x k. let (r, h, z, call, none, gives) = k in (search (rules, tests), gives)))
