@@ -7,3 +7,4 @@ pub mod Readied
 pub mod Whole
 pub mod Rounds
 pub mod OneTable
+pub mod Ruled

@@ -5,7 +5,6 @@ use Rattle.language.specs.Limits.{most_units}
 use Rattle.language.specs.Links.{LinksOf, Predecessors}
 use Rattle.language.specs.Patterns.{Accepted, Tree, alternatives, group, units}
 use Rattle.rule.specs.Words.{Says, byte_of, kind_of}
-use Rattle.rule.specs.declared.table.Rule.{Rule}
 use Rattle.rule.specs.declared.word.Kind.TheVariants.{End}
 use Rattle.rule.specs.declared.word.Kind.{Kind}
 use Rattle.stops.specs.Stops.{stop_number}
@@ -36,14 +35,9 @@ pub record RuleOf (bytes : List ℕ) (n : ℕ) (words : List ℕ) : Type 0 where
   pub accepted : Accepted bytes
   pub table : TableOf accepted.tree n words
 
--- a rule has no word for the position j: it is past the last one, or past the memory
-abbrev pub NoWord : Rule → ℕ → Type 0
-NoWord rule j = (rule.last < j) ⊎ (most_units + 3 ≤ j)
-
--- what loading a pattern into a slot answers, and what the slot holds before and after
-abbrev pub Loads : List ℕ → Option Rule → Result ℕ Fault → Option Rule → Type 0
-Loads bytes before (Ok n) after = (rule : Rule) × (after ≡ Some rule) × (rule.last ≡ n) × RuleOf bytes n rule.words
-Loads bytes before (Err f) after = Faulty bytes (stop_number f.stop) f.place × (after ≡ before)
+-- the words up to n are the rule table of some pattern
+abbrev pub Ruled : ℕ → List ℕ → Type 0
+Ruled n words = ∥ ((bytes : List ℕ) × RuleOf bytes n words) ∥₁
 
 -- all tables of a pattern end at one position, and have the same words up to it
 abbrev pub EachPatternHasOneTable : Type 0

@@ -320,10 +320,10 @@ impl Builder {
         }
     }
 
-    /// Adds the CLOSE and the END.
+    /// Adds the CLOSE and the END: the rule of a pattern whose units the builder has taken.
     fn finish(mut self) -> Rule
-        requires { (Room self) × ((self.count < most_units + 2) × ((self.depth ≡ 1) × (Position (OpenedLast self).bar))) }
-        ensures { (us : List Written) (x : Before) → Stands self us [] x → WordsOf (Sofar (Open ∷ (us ++ (Close ∷ [])))) (Open ∷ (us ++ (Close ∷ []))) result.last result.words }
+        requires { ((bytes : List ℕ) × ReadTo bytes self) × (self.depth ≡ 1) }
+        ensures { (bytes : List ℕ) → ReadTo bytes self → RuleOf bytes result.last result.words }
     {
         let position = self.count;
         let whole = self.groups[self.depth - 1];

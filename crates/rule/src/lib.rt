@@ -6,7 +6,8 @@ mod builder;
 mod table;
 mod word;
 
-ghost use Rattle.rule.specs.Tables.{EachPatternHasOneTable, Loads};
+ghost use Rattle.rule.specs.Loading.{Loads};
+ghost use Rattle.rule.specs.Tables.{EachPatternHasOneTable};
 
 pub use builder::{empty_rule, read};
 use syntax::Fault;

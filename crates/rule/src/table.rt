@@ -1,8 +1,9 @@
 //! A rule: the words of its table, in memory of its own.
 
-ghost use Rattle.std.specs.Prelude.{◌≡◌, ◌≤◌, ◌⊎◌, MatchOption, slice_index};
-ghost use Rattle.rule.specs.Tables.{NoWord};
-ghost use Rattle.rule.specs.Words.{NoKind, Says, first_of, second_of, takes_at};
+ghost use Rattle.std.specs.Prelude.{◌≡◌, ◌+◌, ◌<◌, ◌≤◌, MatchOption, slice_index};
+ghost use Rattle.language.specs.Limits.{most_units};
+ghost use Rattle.rule.specs.Tables.{Ruled};
+ghost use Rattle.rule.specs.Words.{Says, first_of, second_of, takes_at};
 
 use crate::MOST_UNITS;
 use crate::word::{Entry, predecessors, takes};
@@ -10,14 +11,18 @@ use crate::word::{Entry, predecessors, takes};
 /// The positions of a pattern of the most units: the added OPEN, the units, the added CLOSE and the END.
 pub const POSITIONS: usize = MOST_UNITS as usize + 3;
 
-/// A rule: a word for each position up to the last one.
+/// A rule: a word for each position up to the last one. The words are the table of a pattern.
 #[derive(Drop)]
 pub struct Rule {
     pub(crate) words: [u32; POSITIONS],
     pub(crate) last: u16,
+    pub ghost ruled: { Ruled last words },
+    pub ghost fits: { last < most_units + 3 },
 }
 
 impl Rule {
+    ghost use Rattle.rule.specs.Loading.{NoWord};
+
     /// The number of the last position, the END.
     pub fn last(&self) -> u16
         ensures { result ≡ self.now.last }
@@ -25,19 +30,19 @@ impl Rule {
         self.last
     }
 
-    /// The word of a position; none past the last one, or past the memory.
+    /// The word of a position; none past the last one.
     pub fn word(&self, position: u16) -> Option<u32>
         ensures { MatchOption result (NoWord self.now position) (λ w. (position ≤ self.now.last) × (w ≡ slice_index self.now.words position)) }
     {
         if position > self.last {
             return None;
         }
-        self.words.get(position as usize).copied()
+        Some(self.words[position as usize])
     }
 
-    /// The word of a position taken apart; none past the last one, or where its kind is no kind's number.
+    /// The word of a position taken apart; none past the last one.
     pub fn entry(&self, position: u16) -> Option<Entry>
-        ensures { MatchOption result (NoWord self.now position ⊎ NoKind (slice_index self.now.words position)) (λ e. (position ≤ self.now.last) × Says (slice_index self.now.words position) e.kind e.byte e.first e.second) }
+        ensures { MatchOption result (NoWord self.now position) (λ e. (position ≤ self.now.last) × Says (slice_index self.now.words position) e.kind e.byte e.first e.second) }
     {
         Entry::of_word(self.word(position)?)
     }

@@ -6,9 +6,11 @@ use Rattle.language.specs.Patterns.{Tree, alternatives, group}
 use Rattle.method.specs.Cells.{source}
 use Rattle.screen.specs.Schedules.{beginning, feeding, finishing, placing, scanning, scans, settling, shifts, stepping, wiping, writes}
 use Rattle.screen.specs.Moving.{Below}
-use Rattle.rule.specs.Tables.{RuleOf}
+use Rattle.rule.specs.Tables.{RuleOf, Ruled}
 use Rattle.rule.specs.Words.{first_of, second_of}
 use Rattle.theory.proofs.Bounds.{link_in}
+use Rattle.std.proofs.Math.Logic.{∥∥₁_elim}
+use Rattle.std.specs.Coded.{le_prop}
 use Rattle.theory.proofs.Tables.{table_tells}
 
 below_append : (size : ℕ) (a b : List Touch) → Below size a → Below size b → Below size (a ++ b)
@@ -53,8 +55,8 @@ module _ {first second : ℕ → Option ℕ} {n size : ℕ} (inside : Inside fir
   below_finishing = (h, below_wiping)
 
 -- the predecessors of a table are positions of its rule
-pub table_inside : {pattern : List ℕ} {n : ℕ} {words : List ℕ} → RuleOf pattern n words → Inside (first_of words) (second_of words) n
-table_inside {pattern} {n} {words} rule =
+table_inside : {pattern : List ℕ} {n : ℕ} {words : List ℕ} → RuleOf pattern n words → Inside (first_of words) (second_of words) n
+table_inside {n = n} {words} rule =
     let t = rule.accepted.tree in
     let tells = table_tells t n words rule.table in
     let at : (j : ℕ) → j ≤ n → (o : Option ℕ) → ((i : ℕ) → o ≡ Some i → LinksOf t i j) → source o j ≤ n =
@@ -67,3 +69,9 @@ table_inside {pattern} {n} {words} rule =
     go : (t : Tree alternatives) (n : ℕ) → n ≡ last_position t → (j : ℕ) → j ≤ n → (o : Option ℕ) → ((i : ℕ) → o ≡ Some i → LinksOf t i j) → source o j ≤ n
     go t n e j h None f = h
     go t n e j h (Some i) f = let l = link_in (group t) 0 i j (f i refl) in omega arith
+
+pub rule_inside : {n : ℕ} {words : List ℕ} → Ruled n words → Inside (first_of words) (second_of words) n
+rule_inside ruled = record {
+  first_in = λ j h. ∥∥₁_elim ruled le_prop (λ (bytes, rule). (table_inside rule).first_in j h);
+  second_in = λ j h. ∥∥₁_elim ruled le_prop (λ (bytes, rule). (table_inside rule).second_in j h);
+}

@@ -1,51 +1,63 @@
 -- Scans made one after another.
-use Rattle.std.proofs.Common.{◌≡◌, ℕ, zero, suc, ◌+◌, ◌*◌, ◌<◌, ◌≤◌, List, ◌++◌, length, Option, sym, refl, ◌∙◌, subst, arith}
-use Rattle.board.specs.Boards.{Make}
+use Rattle.std.proofs.Common.{◌≡◌, ℕ, zero, suc, ◌+◌, ◌*◌, ◌<◌, ◌≤◌, List, ◌++◌, length, Ok, Err, Result, sym, refl, ◌∙◌, subst, arith}
+use Rattle.board.specs.Boards.{Touch}
+use Rattle.board.specs.declared.Board.{Ghosts}
+use Rattle.mark.specs.Marks.{Kind}
 use Rattle.method.proofs.Others.{leave_others}
-use Rattle.method.specs.Cells.{scanned, scanned_times, settled}
-use Rattle.screen.proofs.Chained.{chained, enough_first, enough_second, unmoved}
+use Rattle.method.specs.Cells.{scanned_times}
+use Rattle.rule.specs.Words.{first_of, second_of}
+use Rattle.rule.specs.declared.table.Rule.{Rule}
+use Rattle.screen.proofs.Chained.{by_rule, chained, cut_first, unmoved}
 use Rattle.screen.proofs.Lengths.{length_scans}
-use Rattle.screen.specs.Moving.{Enough, Moves}
-use Rattle.screen.specs.Schedules.{scanning, scannings, settling}
+use Rattle.screen.specs.ByRule.{scanned_by, scanning_of, settled_by, settling_of}
+use Rattle.screen.specs.Movements.{Movement, cells_on}
+use Rattle.screen.specs.Schedules.{scannings}
+use Rattle.screen.specs.declared.movements.Mover.{Mover}
+use Rattle.stops.specs.declared.Stop.{Stop}
 
-module _ {M X : Type 0} (make : Make X) (join : M → M → M) (nothing : M) (first second : ℕ → Option ℕ) (n : ℕ) (cells₀ : List M) (start : X) where
+module _ {B M : Type 0} (board : Ghosts B M) (kind : Kind M) (old : Mover B) where
+  abbrev rule : Rule
+  rule = old.rule.now
+
+  abbrev scans_of : ℕ → List Touch
+  scans_of i = scannings (first_of rule.words) (second_of rule.words) i rule.last
+
+  abbrev times : ℕ → List M → List M
+  times i cells = scanned_times kind.join kind.nothing (first_of rule.words) (second_of rule.words) rule.last i cells
+
   -- i scans are made
-  abbrev pub Settling : ℕ → List M → X → ℕ → Type 0
-  Settling i cells meter touches = Moves make cells₀ start (scannings first second i n) (scanned_times join nothing first second n i cells₀) cells meter touches
+  abbrev pub Settling : ℕ → Mover B → Type 0
+  Settling i m = Movement board old (scans_of i) (times i) m (Ok tt)
 
-  times_long : (i : ℕ) → length (scanned_times join nothing first second n i cells₀) ≡ length cells₀
-  times_long zero = refl
-  times_long (suc i) = ((leave_others M).scanning join nothing first second n (scanned_times join nothing first second n i cells₀)).long ∙ times_long i
+  times_long : (i : ℕ) (cells : List M) → length (times i cells) ≡ length cells
+  times_long zero cells = refl
+  times_long (suc i) cells = ((leave_others M).scanning kind.join kind.nothing (first_of rule.words) (second_of rule.words) rule.last (times i cells)).long ∙ times_long i cells
 
-  pub settle_none : Settling 0 cells₀ start 0
-  settle_none = unmoved make cells₀ start
+  pub settle_none : Settling 0 old
+  settle_none = unmoved board old
 
-  module _ {i : ℕ} {cells : List M} {meter : X} {touches : ℕ} (f : Settling i cells meter touches) (short : i < 2) where
-    pub settle_count : touches ≤ 4 * n + 4
-    settle_count = at i short f.counted
+  module _ (i : ℕ) {m : Mover B} (f : Settling i m) where
+    pub settle_count : i < 2 → m.touches ≤ old.touches + 4 * rule.last + 4
+    settle_count short = at i short f.counted
       where
-        at : (k : ℕ) → k < 2 → touches ≡ length (scannings first second k n) → touches ≤ 4 * n + 4
+        at : (k : ℕ) → k < 2 → m.touches ≡ old.touches + length (scans_of k) → m.touches ≤ old.touches + 4 * rule.last + 4
         at zero h e = omega arith
-        at (suc zero) h e = let l = length_scans first second (suc n) 0 in omega arith
+        at (suc zero) h e = let l = length_scans (first_of rule.words) (second_of rule.words) (suc rule.last) 0 in omega arith
         at (suc (suc k)) h e = let z : ⊥ = omega arith in absurd z
 
-    pub settle_more : {cells' : List M} {meter' : X} (u t k : ℕ) → Moves make cells meter (scanning first second n) (scanned join nothing first second n cells) cells' meter' u → t ≡ touches + u → k ≡ i + 1
-        → Settling k cells' meter' t
-    settle_more {cells'} {meter'} u t k m e g =
-        let h : suc i ≡ k = omega arith in
-        subst (λ z. Settling z cells' meter' t) h
-        (subst (λ z. Settling (suc i) cells' meter' z) (sym e)
-        (chained make (scannings first second i n) (scanning first second n) touches f (times_long i) (λ cs. scanned join nothing first second n cs) u m))
+    pub settle_on : {new : Mover B} (r : Result (Unit {0}) Stop) → Movement board m (scanning_of m.rule.now) (scanned_by kind m.rule.now) new r → Movement board old (scans_of (suc i)) (times (suc i)) new r
+    settle_on r n = chained board (scans_of i) (scanning_of rule) (times i) (scanned_by kind rule) (times_long i (cells_on board old)) f r (by_rule board scanning_of (scanned_by kind) f.on n)
 
-    -- with enough for both scans there is enough for the next
-    pub settle_enough : Enough make (length cells₀) start (settling first second n) → Enough make (length cells) meter (scanning first second n)
-    settle_enough e = enough_second make (scannings first second i n) (scanning first second n) touches f (times_long i) (at i short)
+    pub settle_more : {new : Mover B} → Movement board m (scanning_of m.rule.now) (scanned_by kind m.rule.now) new (Ok tt) → Settling (i + 1) new
+    settle_more {new} n = let e : suc i ≡ i + 1 = omega arith in subst (λ z. Settling z new) e (settle_on (Ok tt) n)
+
+    pub settle_stops : {new : Mover B} {s s' : Stop} → i < 2 → Movement board m (scanning_of m.rule.now) (scanned_by kind m.rule.now) new (Err s) → Movement board old (settling_of rule) (settled_by kind rule) new (Err s')
+    settle_stops {new} {s} {s'} h n = at i h (settle_on (Err s) n)
       where
-        at : (k : ℕ) → k < 2 → Enough make (length cells₀) start (scannings first second k n ++ scanning first second n)
-        at zero h = enough_first make (scannings first second 1 n) (scanning first second n) e
-        at (suc zero) h = e
-        at (suc (suc k)) h = let z : ⊥ = omega arith in absurd z
+        at : (k : ℕ) → k < 2 → Movement board old (scans_of (suc k)) (times (suc k)) new (Err s) → Movement board old (settling_of rule) (settled_by kind rule) new (Err s')
+        at zero h x = cut_first board (scans_of 1) (scanning_of rule) (times 1) (settled_by kind rule) x
+        at (suc zero) h x = record { on = x.on; done = tt; counted = tt; enough = x.enough }
+        at (suc (suc k)) h x = let z : ⊥ = omega arith in absurd z
 
-  pub settle_all : {i : ℕ} {cells : List M} {meter : X} {touches : ℕ} → Settling i cells meter touches → i ≡ 2
-      → Moves make cells₀ start (settling first second n) (settled join nothing first second n cells₀) cells meter touches
-  settle_all {cells = cells} {meter} {touches} f e = subst (λ z. Settling z cells meter touches) e f
+    pub settle_all : i ≡ 2 → Movement board old (settling_of rule) (settled_by kind rule) m (Ok tt)
+    settle_all e = subst (λ z. Settling z m) e f

@@ -1,56 +1,71 @@
 -- Cells carried over a byte, from the last one down.
-use Rattle.std.proofs.Common.{◌≡◌, ℕ, suc, ◌+◌, ◌*◌, ◌≤◌, Bool, List, [], ◌∷◌, length, get_or, set, Ok, sym, refl, ap, ◌∙◌, subst, arith}
-use Rattle.board.specs.Boards.{Make, Reads, Touch, Writes, read, write}
-use Rattle.method.specs.Cells.{across, shift, stepped}
+use Rattle.std.proofs.Common.{◌≡◌, ℕ, suc, ◌+◌, ◌*◌, ◌≤◌, List, [], ◌∷◌, length, get_or, set, Ok, Err, Result, sym, refl, ap, ◌∙◌, subst, arith}
+use Rattle.board.specs.Boards.{Touch, read, write}
+use Rattle.board.specs.declared.Board.{Ghosts}
+use Rattle.mark.specs.Marks.{Kind}
+use Rattle.method.specs.Cells.{across, shift}
+use Rattle.rule.specs.Words.{takes_at}
+use Rattle.rule.specs.declared.table.Rule.{Rule}
 use Rattle.screen.proofs.Lengths.{length_stepping}
-use Rattle.screen.proofs.Underway.{Underway, all_done, none_yet, read_on, write_on}
-use Rattle.screen.specs.Moving.{Moves}
+use Rattle.screen.proofs.Underway.{Underway, all_done, none_yet, read_on, write_on, write_refused}
+use Rattle.screen.specs.ByRule.{stepped_by, stepping_of}
+use Rattle.screen.specs.Movements.{Movement, ReadOf, WriteOf, cells_on}
 use Rattle.screen.specs.Schedules.{stepping}
+use Rattle.screen.specs.declared.movements.Mover.{Mover}
+use Rattle.stops.specs.declared.Stop.{Stop}
 use Rattle.std.proofs.lemmas.List.{get_or_read}
 
-module _ {M X : Type 0} (make : Make X) (nothing : M) (takes : ℕ → Bool) (n : ℕ) (cells₀ : List M) (start : X) where
-  abbrev Whole : List M → X → ℕ → List Touch → Type 0
-  Whole cells meter touches rest = Underway make (length cells₀) start (stepping n) cells meter touches rest
+module _ {B M : Type 0} (board : Ghosts B M) (kind : Kind M) (rule : Rule) (byte : ℕ) (old : Mover B) where
+  abbrev Going : List Touch → Mover B → Type 0
+  Going rest m = Underway board old (stepping_of rule) rest m
+
+  abbrev shifted : ℕ → List M → List M
+  shifted j cells = shift kind.nothing (takes_at rule.words byte) j cells
+
+  abbrev over : ℕ → M → M
+  over j mark = across kind.nothing (takes_at rule.words byte) j mark
 
   -- the cells above j are carried over
-  pub record Stepping (j : ℕ) (cells : List M) (meter : X) (touches : ℕ) : Type 0 where
-    pub underway : Whole cells meter touches (stepping j)
-    pub shifts_on : shift nothing takes j cells ≡ shift nothing takes n cells₀
+  pub record Stepping (j : ℕ) (m : Mover B) : Type 0 where
+    pub going : Going (stepping j) m
+    pub shifts_on : shifted j (cells_on board m) ≡ shifted rule.last (cells_on board old)
 
-  pub step_none : (j : ℕ) → j ≡ n → Stepping j cells₀ start 0
-  step_none j e = subst (λ z. Stepping z cells₀ start 0) (sym e) (record { underway = none_yet make cells₀ start (stepping n); shifts_on = refl })
+  pub step_none : (j : ℕ) → j ≡ rule.last → Stepping j old
+  step_none j e = subst (λ z. Stepping z old) (sym e) (record { going = none_yet board old (stepping_of rule); shifts_on = refl })
 
-  pub step_count : {j : ℕ} {cells : List M} {meter : X} {touches : ℕ} → Stepping j cells meter touches → touches ≤ 2 * n + 1
-  step_count {j} f = let c = f.underway.counted in omega (arith, length_stepping n, length_stepping j)
+  pub step_count : {j : ℕ} {m : Mover B} → Stepping j m → m.touches ≤ old.touches + 2 * rule.last + 1
+  step_count {j} f = let c = f.going.counted in omega (arith, length_stepping rule.last, length_stepping j)
 
-  module _ {i : ℕ} {cells : List M} {meter : X} {touches : ℕ} (f : Stepping (suc i) cells meter touches) where
-    pub step_start : Whole cells meter touches (read i ∷ write (suc i) ∷ stepping i)
-    step_start = f.underway
+  pub at_next : {j : ℕ} {m : Mover B} (i : ℕ) → j ≡ suc i → Stepping j m → Stepping (suc i) m
+  at_next {m = m} i e f = subst (λ z. Stepping z m) e f
 
-    module _ (a : M) {cells₁ : List M} {meter₁ : X} {t₁ : ℕ} (r : Reads make cells meter i cells₁ meter₁ (Ok a)) (k : t₁ ≡ touches + 1) where
-      pub step_read : Whole cells₁ meter₁ t₁ (write (suc i) ∷ stepping i)
-      step_read = read_on make step_start r k
+  module _ {i : ℕ} {m : Mover B} (f : Stepping (suc i) m) where
+    pub step_start : Going (read i ∷ write (suc i) ∷ stepping i) m
+    step_start = f.going
 
-      pub step_more : {cells₂ : List M} {meter₂ : X} {done : Unit {0}} (t₂ : ℕ) (m : M) → Writes make cells₁ meter₁ (suc i) m cells₂ meter₂ (Ok done) → m ≡ across nothing takes i a → t₂ ≡ t₁ + 1
-          → Stepping i cells₂ meter₂ t₂
+    module _ {i₁ : ℕ} (e₁ : i₁ ≡ i) {m₁ : Mover B} {a : M} (r : ReadOf board m i₁ m₁ (Ok a)) where
+      pub step_read : Going (write (suc i) ∷ stepping i) m₁
+      step_read = read_on board e₁ step_start r
+
+      pub step_more : {i₂ : ℕ} (e₂ : i₂ ≡ suc i) {m₂ : Mover B} (v : M) {done : Unit {0}} → WriteOf board m₁ i₂ v m₂ (Ok done) → v ≡ over i a → Stepping i m₂
       unfolding shift
-      step_more {cells₂} {meter₂} t₂ m w e l =
-          let g : get_or cells i nothing ≡ a = sym (get_or_read cells i a r.0.inside r.1 nothing) in
-          let mark : across nothing takes i (get_or cells i nothing) ≡ m = ap (across nothing takes i) g ∙ sym e in
-          let now : set cells (suc i) (across nothing takes i (get_or cells i nothing)) ≡ cells₂ = ap (set cells (suc i)) mark ∙ ap (λ z. set z (suc i) m) (sym r.2) ∙ sym w.1 in
-          record { underway = write_on make m step_read w l; shifts_on = ap (shift nothing takes i) (sym now) ∙ f.shifts_on }
+      step_more {i₂} e₂ {m₂} v w e =
+          let cells = cells_on board m in
+          let g : get_or cells i kind.nothing ≡ a = ap (λ z. get_or cells z kind.nothing) (sym e₁) ∙ sym (get_or_read cells i₁ a r.done.0.inside r.done.1 kind.nothing) in
+          let mark : over i (get_or cells i kind.nothing) ≡ v = ap (over i) g ∙ sym e in
+          let now : set cells (suc i) (over i (get_or cells i kind.nothing)) ≡ cells_on board m₂ =
+          ap (set cells (suc i)) mark ∙ ap (λ z. set z (suc i) v) (sym r.done.2) ∙ ap (λ z. set (cells_on board m₁) z v) (sym e₂) ∙ sym w.done.1 in
+          record { going = write_on board e₂ v step_read w; shifts_on = ap (shifted i) (sym now) ∙ f.shifts_on }
 
-  pub at_next : {j : ℕ} {cells : List M} {meter : X} {touches : ℕ} (i : ℕ) → j ≡ suc i → Stepping j cells meter touches → Stepping (suc i) cells meter touches
-  at_next {cells = cells} {meter} {touches} i e f = subst (λ z. Stepping z cells meter touches) e f
+  module _ {j : ℕ} {m : Mover B} (e : j ≡ 0) (f : Stepping j m) where
+    at_zero : Stepping 0 m
+    at_zero = subst (λ z. Stepping z m) e f
 
-  module _ {j : ℕ} {cells : List M} {meter : X} {touches : ℕ} (e : j ≡ 0) (f : Stepping j cells meter touches) where
-    at_zero : Stepping 0 cells meter touches
-    at_zero = subst (λ z. Stepping z cells meter touches) e f
+    pub last_write : Going (write 0 ∷ []) m
+    last_write = at_zero.going
 
-    pub last_write : Whole cells meter touches (write 0 ∷ [])
-    last_write = at_zero.underway
-
-    pub step_all : {cells' : List M} {meter' : X} {done : Unit {0}} (t : ℕ) (seed : M) → Writes make cells meter 0 seed cells' meter' (Ok done) → t ≡ touches + 1
-        → Moves make cells₀ start (stepping n) (stepped nothing takes seed n cells₀) cells' meter' t
+    -- seed(bytes fed) is put into cell 0, or the write is refused
+    pub step_ends : {m' : Mover B} {v : M} {fed : ℕ} → v ≡ kind.seed fed → (r : Result (Unit {0}) Stop) → WriteOf board m 0 v m' r → Movement board old (stepping_of rule) (stepped_by kind byte fed rule) m' r
     unfolding shift
-    step_all {cells'} {meter'} t seed w k = all_done make (write_on make seed last_write w k) (w.1 ∙ ap (λ z. set z 0 seed) at_zero.shifts_on)
+    step_ends {v = v} {fed} k (Ok done) w = all_done board (stepped_by kind byte fed rule) (write_on board refl v last_write w) (w.done.1 ∙ ap (λ z. set z 0 v) at_zero.shifts_on ∙ ap (set (shifted rule.last (cells_on board old)) 0) k)
+    step_ends k (Err s) w = write_refused board last_write refl w

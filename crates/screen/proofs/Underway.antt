@@ -1,66 +1,81 @@
--- A schedule under way on a board: what is still to come of it leads where all of it leads from the start.
-use Rattle.std.proofs.Common.{◌≡◌, ℕ, ◌+◌, ◌≤◌, List, [], ◌∷◌, length, Ok, sym, refl, ap, ◌∙◌, subst, arith, length-set}
-use Rattle.board.specs.Boards.{Make, Reads, Refused, Touch, Writes, cell_of, moved, no_allowance, no_cell, read, write}
-use Rattle.screen.specs.Moving.{Enough, Moves}
+-- A schedule under way on the mover's board: what is still to come of it leads where all of it leads from the start.
+use Rattle.std.proofs.Common.{◌≡◌, ℕ, ◌+◌, ◌≤◌, List, [], ◌∷◌, length, Ok, Err, sym, refl, ap, ◌∙◌, subst, arith, length-set}
+use Rattle.board.specs.Boards.{Refused, Touch, cell_of, moved, no_allowance, no_cell, read, write}
+use Rattle.board.specs.declared.Board.{Ghosts}
+use Rattle.screen.specs.Movements.{Movement, ReadOf, SameBoard, WriteOf, cells_on, meter_on}
+use Rattle.screen.specs.Moving.{Enough}
+use Rattle.screen.specs.declared.movements.Mover.{Mover}
+use Rattle.stops.specs.declared.Stop.{Stop}
 
-pub record Underway {M X : Type 0} (make : Make X) (size : ℕ) (start : X) (whole : List Touch) (cells : List M) (meter : X) (touches : ℕ) (rest : List Touch) : Type 0 where
-  pub sized : length cells ≡ size
-  pub moves : moved (make.step size) meter rest ≡ moved (make.step size) start whole
-  pub counted : touches + length rest ≡ length whole
-  pub enough : Enough make size start whole → Enough make size meter rest
-  pub lasts : make.allowed size start ≤ make.allowed size meter + touches
+module _ {B M : Type 0} (board : Ghosts B M) where
+  pub on_still : (m : Mover B) → SameBoard board m m
+  on_still m = record { same = refl; ruled = refl; kept = board.keeps.still _ }
 
-module _ {M X : Type 0} (make : Make X) where
-  pub none_yet : (cells : List M) (meter : X) (whole : List Touch) → Underway make (length cells) meter whole cells meter 0 whole
-  none_yet cells meter whole = record { sized = refl; moves = refl; counted = omega arith; enough = λ e. e; lasts = omega arith }
+  pub on_on : {a b c : Mover B} → SameBoard board a b → SameBoard board b c → SameBoard board a c
+  on_on p q = record { same = q.same ∙ p.same; ruled = q.ruled ∙ p.ruled; kept = board.keeps.on _ _ _ p.kept q.kept }
 
-  module _ {size : ℕ} {start : X} {whole : List Touch} {cells : List M} {meter : X} {touches : ℕ} {a : Touch} {rest : List Touch} (u : Underway make size start whole cells meter touches (a ∷ rest)) where
+  -- the mover old is on its way by the schedule whole, of which rest is still to come
+  pub record Underway (old : Mover B) (whole rest : List Touch) (m : Mover B) : Type 0 where
+    pub on : SameBoard board old m
+    pub sized : length (cells_on board m) ≡ length (cells_on board old)
+    pub moves : moved (board.make.step (length (cells_on board old))) (meter_on board m) rest ≡ moved (board.make.step (length (cells_on board old))) (meter_on board old) whole
+    pub counted : m.touches + length rest ≡ old.touches + length whole
+    pub enough : Enough board.make (length (cells_on board old)) (meter_on board old) whole → Enough board.make (length (cells_on board old)) (meter_on board m) rest
+    pub lasts : board.make.allowed (length (cells_on board old)) (meter_on board old) + old.touches ≤ board.make.allowed (length (cells_on board old)) (meter_on board m) + m.touches
+
+  pub none_yet : (old : Mover B) (whole : List Touch) → Underway old whole whole old
+  none_yet old whole = record { on = on_still old; sized = refl; moves = refl; counted = refl; enough = λ e. e; lasts = omega arith }
+
+  module _ {old m : Mover B} {whole : List Touch} {a : Touch} {rest : List Touch} (u : Underway old whole (a ∷ rest) m) where
     -- one touch more
-    touched : (cells' : List M) (meter' : X) (n : ℕ) → length cells' ≡ length cells → meter' ≡ make.step (length cells) meter a → n ≡ touches + 1
-        → Underway make size start whole cells' meter' n rest
-    touched cells' meter' n l e k =
-        let sized = u.sized in
-        let f : meter' ≡ make.step size meter a = e ∙ ap (λ z. make.step z meter a) sized in
-        let falls = make.lasts size meter a in
-        let same : make.allowed size meter' ≡ make.allowed size (make.step size meter a) = ap (make.allowed size) f in
+    touched : (m' : Mover B) → SameBoard board m m' → length (cells_on board m') ≡ length (cells_on board m) → meter_on board m' ≡ board.make.step (length (cells_on board m)) (meter_on board m) a → m'.touches ≡ m.touches + 1
+        → Underway old whole rest m'
+    touched m' on l e k =
+        let size = length (cells_on board old) in
+        let f : meter_on board m' ≡ board.make.step size (meter_on board m) a = e ∙ ap (λ z. board.make.step z (meter_on board m) a) u.sized in
+        let falls = board.make.lasts size (meter_on board m) a in
+        let same : board.make.allowed size (meter_on board m') ≡ board.make.allowed size (board.make.step size (meter_on board m) a) = ap (board.make.allowed size) f in
         record {
-          sized = l ∙ sized;
-          moves = ap (λ z. moved (make.step size) z rest) f ∙ u.moves;
+          on = on_on u.on on;
+          sized = l ∙ u.sized;
+          moves = ap (λ z. moved (board.make.step size) z rest) f ∙ u.moves;
           counted = let c = u.counted in omega arith;
           enough = λ h. let e2 = u.enough h in let b = e2.allowed in record { below = e2.below.1; allowed = omega arith };
           lasts = let c = u.lasts in omega arith;
         }
 
     -- with enough for all of it no touch is refused
-    pub never_refused : {n : ℕ} → Refused (length cells) (make.allowed (length cells) meter) (cell_of a) n → Enough make size start whole → ⊥
-    never_refused (no_cell h) e = let b = (u.enough e).below.0 in let s = u.sized in omega arith
-    never_refused (no_allowance h z) e =
+    never_refused : {i n : ℕ} → i ≡ cell_of a → Refused (length (cells_on board m)) (board.make.allowed (length (cells_on board m)) (meter_on board m)) i n
+        → Enough board.make (length (cells_on board old)) (meter_on board old) whole → ⊥
+    never_refused k (no_cell h) e = let b = (u.enough e).below.0 in let s = u.sized in omega arith
+    never_refused k (no_allowance h z) e =
         let b = (u.enough e).allowed in
-        let s : make.allowed size meter ≡ 0 = ap (λ k. make.allowed k meter) (sym u.sized) ∙ z in
+        let s : board.make.allowed (length (cells_on board old)) (meter_on board m) ≡ 0 = ap (λ k. board.make.allowed k (meter_on board m)) (sym u.sized) ∙ z in
         omega arith
 
-  module _ {size : ℕ} {start : X} {whole : List Touch} {cells : List M} {meter : X} {touches : ℕ} {rest : List Touch} {i : ℕ} {cells' : List M} {meter' : X} {n : ℕ} where
-    pub read_on : {m : M} → Underway make size start whole cells meter touches (read i ∷ rest) → Reads make cells meter i cells' meter' (Ok m) → n ≡ touches + 1
-        → Underway make size start whole cells' meter' n rest
-    read_on u r k = touched u cells' meter' n (ap length r.2) r.3 k
+    module _ {i : ℕ} {m' : Mover B} {after : List M → List M} {s s' : Stop} (e : i ≡ cell_of a) where
+      pub read_refused : ReadOf board m i m' (Err s) → Movement board old whole after m' (Err s')
+      read_refused r = record { on = on_on u.on r.on; done = tt; counted = tt; enough = λ h. absurd (never_refused e r.done.0 h) }
 
-    pub write_on : (m : M) {done : Unit {0}} → Underway make size start whole cells meter touches (write i ∷ rest) → Writes make cells meter i m cells' meter' (Ok done) → n ≡ touches + 1
-        → Underway make size start whole cells' meter' n rest
-    write_on m u r k = touched u cells' meter' n (ap length r.1 ∙ length-set cells i m) r.2 k
+      pub write_refused : {v : M} → WriteOf board m i v m' (Err s) → Movement board old whole after m' (Err s')
+      write_refused r = record { on = on_on u.on r.on; done = tt; counted = tt; enough = λ h. absurd (never_refused e r.done.0 h) }
+
+  module _ {old m m' : Mover B} {whole rest : List Touch} {i k : ℕ} (e : i ≡ k) where
+    pub read_on : {v : M} → Underway old whole (read k ∷ rest) m → ReadOf board m i m' (Ok v) → Underway old whole rest m'
+    read_on u r = touched u m' r.on (ap length r.done.2) (r.done.3 ∙ ap (λ z. board.make.step (length (cells_on board m)) (meter_on board m) (read z)) e) r.counted
+
+    pub write_on : (v : M) {done : Unit {0}} → Underway old whole (write k ∷ rest) m → WriteOf board m i v m' (Ok done) → Underway old whole rest m'
+    write_on v u r =
+        touched u m' r.on (ap length r.done.1 ∙ length-set (cells_on board m) i v) (r.done.2 ∙ ap (λ z. board.make.step (length (cells_on board m)) (meter_on board m) (write z)) e) r.counted
 
   -- nothing is left to come
-  pub all_done : {cells₀ after cells : List M} {start meter : X} {whole : List Touch} {touches : ℕ} → Underway make (length cells₀) start whole cells meter touches [] → cells ≡ after
-      → Moves make cells₀ start whole after cells meter touches
-  all_done u e = record { holds = e; moves = u.moves; counted = let c = u.counted in omega arith; lasts = let c = u.counted in let l = u.lasts in omega arith }
-
--- an access to a cell by another name
-module _ {M X : Type 0} (make : Make X) {cells cells' : List M} {meter meter' : X} {i k : ℕ} (e : i ≡ k) where
-  pub reads_at : {m : M} → Reads make cells meter i cells' meter' (Ok m) → Reads make cells meter k cells' meter' (Ok m)
-  reads_at {m} h = subst (λ z. Reads make cells meter z cells' meter' (Ok m)) e h
-
-pub refused_at : {size allowance i k n : ℕ} → i ≡ k → Refused size allowance i n → Refused size allowance k n
-refused_at {size} {allowance} {n = n} e h = subst (λ z. Refused size allowance z n) e h
-
-pub writes_at : {M X : Type 0} (make : Make X) (cells : List M) {cells' : List M} {meter meter' : X} {i k : ℕ} → i ≡ k → (m : M) {done : Unit {0}} → Writes make cells meter i m cells' meter' (Ok done)
-    → Writes make cells meter k m cells' meter' (Ok done)
-writes_at make cells {cells'} {meter} {meter'} e m {done} h = subst (λ z. Writes make cells meter z m cells' meter' (Ok done)) e h
+  pub all_done : {old m : Mover B} {whole : List Touch} (after : List M → List M) → Underway old whole [] m → cells_on board m ≡ after (cells_on board old) → Movement board old whole after m (Ok tt)
+  all_done after u e =
+      let c = u.counted in
+      let l = u.lasts in
+      record {
+        on = u.on;
+        done = record { holds = e; moves = u.moves; counted = refl; lasts = omega arith };
+        counted = omega arith;
+        enough = λ _. refl;
+      }

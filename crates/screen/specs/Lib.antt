@@ -1,2 +1,4 @@
 pub mod Schedules
+pub mod ByRule
 pub mod Moving
+pub mod Movements

@@ -1,6 +1,8 @@
 -- A movement under way on a board.
 use Rattle.std.specs.Prelude.{◌≡◌, ℕ, ◌+◌, ◌<◌, ◌≤◌, List, [], ◌∷◌, length, Ok, Err, Result, slice_index_or}
 use Rattle.board.specs.Boards.{Make, Touch, cell_of, moved}
+use Rattle.board.specs.declared.Board.{Ghosts}
+use Rattle.rule.specs.declared.table.Rule.{Rule}
 use Rattle.stops.specs.Stops.{stop_number}
 use Rattle.stops.specs.declared.Stop.{Stop}
 
@@ -44,3 +46,20 @@ module _ {M X : Type 0} (make : Make X) (cells : List M) (meter : X) (last : ℕ
   abbrev pub ReadOut : Result (M × ℕ) Stop → Type 0
   ReadOut (Ok r) = (r.0 ≡ slice_index_or cells last r.0) × Enough make (length cells) meter schedule × Moves make cells meter schedule after cells' meter' r.1
   ReadOut (Err s) = NotBegun (stop_number s)
+
+-- a board is admitted where it has a cell for each position of a rule and allows so many touches, and else it lacks something
+abbrev pub Admits : {B M : Type 0} → Ghosts B M → B → Rule → ℕ → Result (Unit {0}) Stop → Type 0
+Admits board b rule touches (Ok done) = (rule.last < length (board.cells b)) × (touches ≤ board.make.allowed (length (board.cells b)) (board.meter b))
+Admits board b rule touches (Err s) = Lacks (length (board.cells b)) (board.make.allowed (length (board.cells b)) (board.meter b)) rule.last touches (stop_number s)
+
+-- What a board keeps it keeps in any case.
+module _ {B M : Type 0} (board : Ghosts B M) (old : B) (rule : Rule) (schedule : Rule → List Touch) (after : Rule → List M → List M) (new : B) where
+  -- a call that is carried out by the rule's schedule, and makes these cells of those before, or is not begun
+  pub record Call (result : Result ℕ Stop) : Type 0 where
+    pub kept : board.keeps.same old new
+    pub done : CarriedOut board.make (board.cells old) (board.meter old) rule.last (schedule rule) (after rule (board.cells old)) (board.cells new) (board.meter new) result
+
+  -- the same where the mark of the last position is answered too
+  pub record ReadingCall (result : Result (M × ℕ) Stop) : Type 0 where
+    pub kept : board.keeps.same old new
+    pub done : ReadOut board.make (board.cells old) (board.meter old) rule.last (schedule rule) (after rule (board.cells old)) (board.cells new) (board.meter new) result

@@ -1,17 +1,14 @@
 use Rattle.language.specs.Faults.{nothing, start}
-use Rattle.rule.proofs.Readied.{bar_at, room_at}
-use Rattle.rule.proofs.Whole.{ruled_at}
 use Rattle.rule.proofs.builder.empty_rule.Goals as goal
-use Rattle.std.proofs.Common.{[], arith}
+use Rattle.rule.specs.Standing.{ReadTo, Stands}
+use Rattle.rule.specs.declared.builder.Builder.{Builder}
+use Rattle.std.proofs.Common.{[], ◌∙◌}
+
+nothing_read : (b : Builder) → Stands b [] [] start → ReadTo [] b
+nothing_read b s = record { us = []; os = []; x = start; reads = nothing; stands = s }
 
 pub finish-requires : goal.finish-requires
-finish-requires c =
-    let b = c.new-builder.result in
-    let s = c.new-builder.ensures in
-    let count = s.grown.count in
-    let depth = s.depth in
-    let opens = s.opens in
-    (room_at b [] [] start s (omega arith), (omega arith, (omega arith, bar_at b [] [] start s (omega arith))))
+finish-requires c = let s = c.new-builder.ensures in (([], nothing_read c.new-builder.result s), s.depth ∙ s.opens)
 
 pub returns : goal.returns
-returns c = ruled_at [] [] start c.finish.result.last c.finish.result.words nothing (c.finish.ensures [] start c.new-builder.ensures)
+returns c = c.finish.ensures [] (nothing_read c.new-builder.result c.new-builder.ensures)

@@ -1,8 +1,6 @@
 use Rattle.language.proofs.Answered.{no_fault_read, only_fault}
-use Rattle.language.proofs.Trees.{reads_few}
 use Rattle.language.specs.Faults.{Faulty}
-use Rattle.rule.proofs.Readied.{bar_at, room_at}
-use Rattle.rule.proofs.Whole.{few_units, ruled, still_open}
+use Rattle.rule.proofs.Whole.{still_open}
 use Rattle.rule.proofs.builder.read.Goals as goal
 use Rattle.std.proofs.lemmas.Result.{err_from_is_err_and}
 use Rattle.std.proofs.Common.{sym, subst}
@@ -22,13 +20,9 @@ returns-in_err-builder c =
     record { answers = rw (p.1, p.2) c.in_err-builder.ensures; exactly = rw (p.1, p.2) (only_fault c.in_err-builder.ensures) }
 
 pub finish-requires : goal.finish-requires
-finish-requires c =
-    let b = c.in_ok-builder.builder in
-    let r = c.in_ok-builder.ensures in
-    let few = reads_few r.reads in
-    (room_at b r.us r.os r.x r.stands few, (few_units c.args.pattern.now b r, (c.in_default.ensures, bar_at b r.us r.os r.x r.stands few)))
+finish-requires c = ((c.args.pattern.now, c.in_ok-builder.ensures), c.in_default.ensures)
 
 pub returns : goal.returns
 returns c =
-    let rule = ruled c.args.pattern.now c.in_ok-builder.builder c.in_ok-builder.ensures c.finish.result.last c.finish.result.words c.in_default.ensures c.finish.ensures in
+    let rule = c.finish.ensures c.args.pattern.now c.in_ok-builder.ensures in
     record { answers = rule; exactly = no_fault_read rule.accepted }
