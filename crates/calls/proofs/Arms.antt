@@ -1,5 +1,5 @@
 -- The calls, by the state of the screen.
-use Rattle.std.proofs.Common.{◌≡◌, ℕ, ◌+◌, ◌-◌, ◌%◌, ◌^◌, ◌<◌, ◌≤◌, ◌≢◌, List, [], length, Some, None, Ok, Err, Option, Result, sym, refl, ap, ◌∙◌, subst, arith}
+use Rattle.std.proofs.Common.{◌≡◌, ℕ, ◌+◌, ◌-◌, ◌%◌, ◌^◌, ◌<◌, ◌≤◌, ◌≢◌, List, [], length, Some, None, Ok, Err, Option, sym, refl, ap, ◌∙◌, subst, arith}
 use Rattle.board.specs.Boards.{Make}
 use Rattle.board.specs.declared.Board.{Ghosts}
 use Rattle.conduct.specs.Calls.{Frame, Order, Said, by_number, number, stopped, stopped_at, to_begin, to_drop, to_feed, to_finish, to_load, to_meter, verdict}
@@ -7,12 +7,11 @@ use Rattle.conduct.specs.Rules.{Due, end_of, begin_too_long, begin_while_open, b
 use Rattle.language.specs.Faults.{Faulty}
 use Rattle.mark.specs.Limits.{most_bytes}
 use Rattle.mark.specs.Marks.{Kind}
-use Rattle.method.specs.Cells.{begun, fed, wiped}
-use Rattle.screen.specs.Schedules.{beginning, feeding, finishing, frame_touches, wiping}
-use Rattle.screen.specs.Moving.{CarriedOut, ReadOut}
+use Rattle.screen.specs.Schedules.{frame_touches}
+use Rattle.screen.specs.ByRule.{beginning_of, begun_by, fed_by, feeding_of, finishing_of, wiped_by, wiping_of}
+use Rattle.screen.specs.Moving.{Call, ReadingCall}
 use Rattle.stops.specs.Stops.{stop_number}
 use Rattle.rule.specs.Tables.{RuleOf}
-use Rattle.rule.specs.Words.{first_of, second_of, takes_at}
 use Rattle.rule.specs.declared.table.Rule.{Rule}
 use Rattle.calls.proofs.Loading.{end_is, unopened}
 use Rattle.calls.proofs.Stops.{number_no_stop, stop_at_goes, stop_goes}
@@ -146,27 +145,21 @@ module _ {B M : Type 0} (board : Ghosts B M) (kind : Kind M) where
               let (p, e, f, fit) = d in
               due_at board.make kind e f (begin_without_allowance fit.table.accepted short (subst (λ z. allows < z) (all_is ∙ ap (λ z. frame_touches z m) (end_is fit.table)) h)))
 
-          module _ {b' : B} (enough : all ≤ allows) (kept : board.keeps.same b b') where
-            abbrev Begun : Result ℕ Stop → Type 0
-            Begun r =
-                (pattern : List ℕ) → RuleOf pattern rule.last rule.words
-                → CarriedOut board.make (board.cells b) (board.meter b) rule.last (beginning (first_of rule.words) (second_of rule.words) rule.last) (begun kind (first_of rule.words) (second_of rule.words) (takes_at rule.words) rule.last (board.cells b)) (board.cells b') (board.meter b') r
-
+          module _ (enough : all ≤ allows) where
             enough_is : frame_touches rule.last m ≤ allows
             enough_is = subst (λ z. z ≤ allows) all_is enough
 
-            pub begin_refused : (stop : Stop) → Begun (Err stop) → Takes board kind b b' (Ready rule) (Ready rule) (to_begin renter m) (stopped (stop_number stop))
-            begin_refused stop g = record { kept = kept; goes = λ l o d. let (p, e, f, fit) = d in begin_never board.make kind (board.cells b) (board.meter b) rule p fit renter m enough_is (g p fit.table) }
+            pub begin_refused : {b' : B} (stop : Stop) → Call board b rule beginning_of (begun_by kind) b' (Err stop) → Takes board kind b b' (Ready rule) (Ready rule) (to_begin renter m) (stopped (stop_number stop))
+            begin_refused {b'} stop g = record { kept = g.kept; goes = λ l o d. let (p, e, f, fit) = d in begin_never board.make kind (board.cells b) (board.meter b) rule p fit renter m enough_is g.done }
 
-            pub begin_goes : (touches : ℕ) → Begun (Ok touches) → Takes board kind b b' (Ready rule) (Open rule (record { renter = renter; length = m; fed = 0; touches = touches })) (to_begin renter m) (number all)
-            begin_goes touches g = record {
-              kept = kept;
+            pub begin_goes : {b' : B} (touches : ℕ) → Call board b rule beginning_of (begun_by kind) b' (Ok touches) → Takes board kind b b' (Ready rule) (Open rule (record { renter = renter; length = m; fed = 0; touches = touches })) (to_begin renter m) (number all)
+            begin_goes {b'} touches g = record {
+              kept = g.kept;
               goes = λ l o d.
                   let (p, e, f, fit) = d in
-                  let (en, mv) = g p fit.table in
                   goes_at board.make kind e f
                   (subst (λ z. Goes board.make kind (Some p) None (Ready rule) (board.cells b) (board.meter b) (to_begin renter m) (number z) (Open rule (record { renter = renter; length = m; fed = 0; touches = touches })) (board.cells b') (board.meter b')) (sym all_is)
-                  (begin_done board.make kind (board.cells b) (board.meter b) rule p fit renter m (board.cells b') (board.meter b') touches short enough_is mv (Ready rule)));
+                  (begin_done board.make kind (board.cells b) (board.meter b) rule p fit renter m (board.cells b') (board.meter b') touches short enough_is g.done.1 (Ready rule)));
             }
 
       -- The calls on a frame that is open.
@@ -203,55 +196,39 @@ module _ {B M : Type 0} (board : Ghosts B M) (kind : Kind M) where
                 let w = u.fed in
                 due_at board.make kind e g (finish_before_the_last (sym u.renter ∙ mine) (omega arith)))
 
-            module _ {b' : B} (kept : board.keeps.same b b') where
+            module _ {b' : B} where
               module _ (byte : ℕ) (before : own.fed < own.length) where
-                abbrev Fed : Result ℕ Stop → Type 0
-                Fed r =
-                    (pattern : List ℕ) → RuleOf pattern rule.last rule.words
-                    → CarriedOut board.make (board.cells b) (board.meter b) rule.last (feeding (first_of rule.words) (second_of rule.words) rule.last) (fed kind (first_of rule.words) (second_of rule.words) (takes_at rule.words) rule.last (own.fed + 1) byte (board.cells b)) (board.cells b') (board.meter b') r
+                pub feed_refused : (stop : Stop) → Call board b rule feeding_of (fed_by kind byte (own.fed + 1)) b' (Err stop) → Takes board kind b b' (Open rule own) (Open rule own) (to_feed renter byte) (stopped (stop_number stop))
+                feed_refused stop g = record { kept = g.kept; goes = λ l o d. let (p, f, e, h, u) = d in feed_never board.make kind (board.cells b) (board.meter b) rule p f own u renter byte before g.done }
 
-                pub feed_refused : (stop : Stop) → Fed (Err stop) → Takes board kind b b' (Open rule own) (Open rule own) (to_feed renter byte) (stopped (stop_number stop))
-                feed_refused stop g = record { kept = kept; goes = λ l o d. let (p, f, e, h, u) = d in feed_never board.make kind (board.cells b) (board.meter b) rule p f own u renter byte before (g p u.fitted.table) }
-
-                pub feed_goes : (more : ℕ) → byte < 256 → Fed (Ok more)
+                pub feed_goes : (more : ℕ) → byte < 256 → Call board b rule feeding_of (fed_by kind byte (own.fed + 1)) b' (Ok more)
                     → Takes board kind b b' (Open rule own) (Open rule (record { renter = own.renter; length = own.length; fed = own.fed + 1; touches = (own.touches + more) % 2 ^ 64 })) (to_feed renter byte) (number (own.length - (own.fed + 1)))
                 feed_goes more small g = record {
-                  kept = kept;
+                  kept = g.kept;
                   goes = λ l o d.
                       let (p, f, e, h, u) = d in
-                      let (en, mv) = g p u.fitted.table in
-                      goes_at board.make kind e h (feed_done board.make kind (board.cells b) (board.meter b) rule p f own u renter byte (board.cells b') (board.meter b') more small mine before mv (Open rule own) _ refl);
+                      goes_at board.make kind e h (feed_done board.make kind (board.cells b) (board.meter b) rule p f own u renter byte (board.cells b') (board.meter b') more small mine before g.done.1 (Open rule own) _ refl);
                 }
 
-              abbrev Finished : Result (M × ℕ) Stop → Type 0
-              Finished r =
-                  (pattern : List ℕ) → RuleOf pattern rule.last rule.words
-                  → ReadOut board.make (board.cells b) (board.meter b) rule.last (finishing (first_of rule.words) (second_of rule.words) rule.last) (wiped kind.nothing rule.last (board.cells b)) (board.cells b') (board.meter b') r
+              pub finish_refused : (stop : Stop) → ReadingCall board b rule finishing_of (wiped_by kind) b' (Err stop) → Takes board kind b b' (Open rule own) (Open rule own) (to_finish renter) (stopped (stop_number stop))
+              finish_refused stop g = record { kept = g.kept; goes = λ l o d. let (p, f, e, h, u) = d in finish_never board.make kind (board.cells b) (board.meter b) rule p f own u renter g.done }
 
-              pub finish_refused : (stop : Stop) → Finished (Err stop) → Takes board kind b b' (Open rule own) (Open rule own) (to_finish renter) (stopped (stop_number stop))
-              finish_refused stop g = record { kept = kept; goes = λ l o d. let (p, f, e, h, u) = d in finish_never board.make kind (board.cells b) (board.meter b) rule p f own u renter (g p u.fitted.table) }
-
-              pub finish_goes : (mark : M) (more : ℕ) → own.length ≤ own.fed → Finished (Ok (mark, more))
+              pub finish_goes : (mark : M) (more : ℕ) → own.length ≤ own.fed → ReadingCall board b rule finishing_of (wiped_by kind) b' (Ok (mark, more))
                   → Takes board kind b b' (Open rule own) (Ready rule) (to_finish renter) (verdict mark ((own.touches + more) % 2 ^ 64))
               finish_goes mark more all g = record {
-                kept = kept;
+                kept = g.kept;
                 goes = λ l o d.
                     let (p, f, e, h, u) = d in
-                    let (is, en, mv) = g p u.fitted.table in
-                    goes_at board.make kind e h (finish_done board.make kind (board.cells b) (board.meter b) rule p f own u renter (Open rule own) (board.cells b') (board.meter b') mark more mine all is mv);
+                    goes_at board.make kind e h (finish_done board.make kind (board.cells b) (board.meter b) rule p f own u renter (Open rule own) (board.cells b') (board.meter b') mark more mine all g.done.0 g.done.2);
               }
 
-              abbrev Dropped : Result ℕ Stop → Type 0
-              Dropped r = (pattern : List ℕ) → RuleOf pattern rule.last rule.words → CarriedOut board.make (board.cells b) (board.meter b) rule.last (wiping rule.last) (wiped kind.nothing rule.last (board.cells b)) (board.cells b') (board.meter b') r
+              pub drop_refused : (stop : Stop) → Call board b rule wiping_of (wiped_by kind) b' (Err stop) → Takes board kind b b' (Open rule own) (Open rule own) (to_drop renter) (stopped (stop_number stop))
+              drop_refused stop g = record { kept = g.kept; goes = λ l o d. let (p, f, e, h, u) = d in drop_never board.make kind (board.cells b) (board.meter b) rule p f own u renter g.done }
 
-              pub drop_refused : (stop : Stop) → Dropped (Err stop) → Takes board kind b b' (Open rule own) (Open rule own) (to_drop renter) (stopped (stop_number stop))
-              drop_refused stop g = record { kept = kept; goes = λ l o d. let (p, f, e, h, u) = d in drop_never board.make kind (board.cells b) (board.meter b) rule p f own u renter (g p u.fitted.table) }
-
-              pub drop_goes : (more : ℕ) → Dropped (Ok more) → Takes board kind b b' (Open rule own) (Ready rule) (to_drop renter) (number ((own.touches + more) % 2 ^ 64))
+              pub drop_goes : (more : ℕ) → Call board b rule wiping_of (wiped_by kind) b' (Ok more) → Takes board kind b b' (Open rule own) (Ready rule) (to_drop renter) (number ((own.touches + more) % 2 ^ 64))
               drop_goes more g = record {
-                kept = kept;
+                kept = g.kept;
                 goes = λ l o d.
                     let (p, f, e, h, u) = d in
-                    let (en, mv) = g p u.fitted.table in
-                    goes_at board.make kind e h (drop_done board.make kind (board.cells b) (board.meter b) rule p f own u renter (Open rule own) (board.cells b') (board.meter b') more mine mv);
+                    goes_at board.make kind e h (drop_done board.make kind (board.cells b) (board.meter b) rule p f own u renter (Open rule own) (board.cells b') (board.meter b') more mine g.done.1);
               }

@@ -12,7 +12,7 @@ returns-then-allowance-all g c = begin_poor g.B.Board g.B.M.Mark.kind c.args.boa
 pub returns-in_err-touches : goal.returns-in_err-touches
 returns-in_err-touches g c =
     let p = err_from_is_err_and c.from_residual.result c.from_residual.ensures.1 in
-    rw (p.1, p.2) (begin_refused g.B.Board g.B.M.Mark.kind c.args.board.now _ _ _ c.frame_touches-all.ensures c.last.ensures (omega arith) (omega arith) c.in_err-touches.ensures.kept _ c.in_err-touches.ensures.done)
+    rw (p.1, p.2) (begin_refused g.B.Board g.B.M.Mark.kind c.args.board.now _ _ _ c.frame_touches-all.ensures c.last.ensures (omega arith) (omega arith) _ c.in_err-touches.ensures)
 
 pub returns : goal.returns
-returns g c = begin_goes g.B.Board g.B.M.Mark.kind c.args.board.now _ _ _ c.frame_touches-all.ensures c.last.ensures (omega arith) (omega arith) c.in_ok-touches.ensures.kept _ c.in_ok-touches.ensures.done
+returns g c = begin_goes g.B.Board g.B.M.Mark.kind c.args.board.now _ _ _ c.frame_touches-all.ensures c.last.ensures (omega arith) (omega arith) _ c.in_ok-touches.ensures

@@ -10,7 +10,7 @@ returns-in_err-check_renter g c =
 pub returns-in_err-more : goal.returns-in_err-more
 returns-in_err-more g c =
     let p = err_from_is_err_and c.from_residual-in_err-more.result c.from_residual-in_err-more.ensures.1 in
-    rw (p.1, p.2) (drop_refused g.B.Board g.B.M.Mark.kind c.args.board.now _ _ _ c.in_ok-check_renter.ensures c.in_err-more.ensures.kept _ c.in_err-more.ensures.done)
+    rw (p.1, p.2) (drop_refused g.B.Board g.B.M.Mark.kind c.args.board.now _ _ _ c.in_ok-check_renter.ensures _ c.in_err-more.ensures)
 
 pub returns : goal.returns
-returns g c = drop_goes g.B.Board g.B.M.Mark.kind c.args.board.now _ _ _ c.in_ok-check_renter.ensures c.in_ok-more.ensures.kept _ c.in_ok-more.ensures.done
+returns g c = drop_goes g.B.Board g.B.M.Mark.kind c.args.board.now _ _ _ c.in_ok-check_renter.ensures _ c.in_ok-more.ensures

@@ -13,7 +13,7 @@ returns-then-frame g c = finish_early g.B.Board g.B.M.Mark.kind c.args.board.now
 pub returns-in_err-mark : goal.returns-in_err-mark
 returns-in_err-mark g c =
     let p = err_from_is_err_and c.from_residual-in_err-mark.result c.from_residual-in_err-mark.ensures.1 in
-    rw (p.1, p.2) (finish_refused g.B.Board g.B.M.Mark.kind c.args.board.now _ _ _ c.in_ok-check_renter.ensures c.in_err-mark.ensures.kept _ c.in_err-mark.ensures.done)
+    rw (p.1, p.2) (finish_refused g.B.Board g.B.M.Mark.kind c.args.board.now _ _ _ c.in_ok-check_renter.ensures _ c.in_err-mark.ensures)
 
 pub returns : goal.returns
-returns g c = finish_goes g.B.Board g.B.M.Mark.kind c.args.board.now _ _ _ c.in_ok-check_renter.ensures c.in_ok-mark.ensures.kept _ _ c.if-frame.false c.in_ok-mark.ensures.done
+returns g c = finish_goes g.B.Board g.B.M.Mark.kind c.args.board.now _ _ _ c.in_ok-check_renter.ensures _ _ c.if-frame.false c.in_ok-mark.ensures
