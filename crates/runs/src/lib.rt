@@ -19,8 +19,8 @@ pub fn play<B: Board>(board: &mut B, calls: &[Call<'_>], told: &mut [Told<B::M>]
 {
     let room = calls.len().min(told.len());
     let mut screen = Screen::new(board);
-    for i in 0..room {
-        told[i] = screen.call(calls[i]);
+    for (i, call) in calls[..room].iter().enumerate() {
+        told[i] = screen.call(*call);
     }
     room
 }
