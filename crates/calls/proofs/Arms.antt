@@ -1,5 +1,5 @@
 -- The calls, by the state of the screen.
-use Rattle.std.proofs.Common.{◌≡◌, ℕ, ◌+◌, ◌-◌, ◌%◌, ◌^◌, ◌<◌, ◌≤◌, ◌≢◌, List, [], length, Some, None, Ok, Err, Option, Result, sym, refl, ap, ◌∙◌, subst, arith}
+use Rattle.std.proofs.Common.{◌≡◌, ℕ, ◌+◌, ◌-◌, ◌%◌, ◌^◌, ◌<◌, ◌≤◌, ◌≢◌, List, [], length, Some, None, Ok, Err, Option, sym, refl, ap, ◌∙◌, subst, arith}
 use Rattle.board.specs.Boards.{Make}
 use Rattle.board.specs.declared.Board.{Ghosts}
 use Rattle.conduct.specs.Calls.{Frame, Order, Said, by_number, number, stopped, stopped_at, to_begin, to_drop, to_feed, to_finish, to_load, to_meter, verdict}
@@ -146,24 +146,20 @@ module _ {B M : Type 0} (board : Ghosts B M) (kind : Kind M) where
               due_at board.make kind e f (begin_without_allowance fit.table.accepted short (subst (λ z. allows < z) (all_is ∙ ap (λ z. frame_touches z m) (end_is fit.table)) h)))
 
           module _ (enough : all ≤ allows) where
-            abbrev Begun : B → Result ℕ Stop → Type 0
-            Begun b' r = Call board b rule beginning_of (begun_by kind) b' r
-
             enough_is : frame_touches rule.last m ≤ allows
             enough_is = subst (λ z. z ≤ allows) all_is enough
 
-            pub begin_refused : {b' : B} (stop : Stop) → Begun b' (Err stop) → Takes board kind b b' (Ready rule) (Ready rule) (to_begin renter m) (stopped (stop_number stop))
+            pub begin_refused : {b' : B} (stop : Stop) → Call board b rule beginning_of (begun_by kind) b' (Err stop) → Takes board kind b b' (Ready rule) (Ready rule) (to_begin renter m) (stopped (stop_number stop))
             begin_refused {b'} stop g = record { kept = g.kept; goes = λ l o d. let (p, e, f, fit) = d in begin_never board.make kind (board.cells b) (board.meter b) rule p fit renter m enough_is g.done }
 
-            pub begin_goes : {b' : B} (touches : ℕ) → Begun b' (Ok touches) → Takes board kind b b' (Ready rule) (Open rule (record { renter = renter; length = m; fed = 0; touches = touches })) (to_begin renter m) (number all)
+            pub begin_goes : {b' : B} (touches : ℕ) → Call board b rule beginning_of (begun_by kind) b' (Ok touches) → Takes board kind b b' (Ready rule) (Open rule (record { renter = renter; length = m; fed = 0; touches = touches })) (to_begin renter m) (number all)
             begin_goes {b'} touches g = record {
               kept = g.kept;
               goes = λ l o d.
                   let (p, e, f, fit) = d in
-                  let (en, mv) = g.done in
                   goes_at board.make kind e f
                   (subst (λ z. Goes board.make kind (Some p) None (Ready rule) (board.cells b) (board.meter b) (to_begin renter m) (number z) (Open rule (record { renter = renter; length = m; fed = 0; touches = touches })) (board.cells b') (board.meter b')) (sym all_is)
-                  (begin_done board.make kind (board.cells b) (board.meter b) rule p fit renter m (board.cells b') (board.meter b') touches short enough_is mv (Ready rule)));
+                  (begin_done board.make kind (board.cells b) (board.meter b) rule p fit renter m (board.cells b') (board.meter b') touches short enough_is g.done.1 (Ready rule)));
             }
 
       -- The calls on a frame that is open.
@@ -200,50 +196,39 @@ module _ {B M : Type 0} (board : Ghosts B M) (kind : Kind M) where
                 let w = u.fed in
                 due_at board.make kind e g (finish_before_the_last (sym u.renter ∙ mine) (omega arith)))
 
-            module _ (byte : ℕ) (before : own.fed < own.length) where
-              abbrev Fed : B → Result ℕ Stop → Type 0
-              Fed b' r = Call board b rule feeding_of (fed_by kind byte (own.fed + 1)) b' r
+            module _ {b' : B} where
+              module _ (byte : ℕ) (before : own.fed < own.length) where
+                pub feed_refused : (stop : Stop) → Call board b rule feeding_of (fed_by kind byte (own.fed + 1)) b' (Err stop) → Takes board kind b b' (Open rule own) (Open rule own) (to_feed renter byte) (stopped (stop_number stop))
+                feed_refused stop g = record { kept = g.kept; goes = λ l o d. let (p, f, e, h, u) = d in feed_never board.make kind (board.cells b) (board.meter b) rule p f own u renter byte before g.done }
 
-              pub feed_refused : {b' : B} (stop : Stop) → Fed b' (Err stop) → Takes board kind b b' (Open rule own) (Open rule own) (to_feed renter byte) (stopped (stop_number stop))
-              feed_refused {b'} stop g = record { kept = g.kept; goes = λ l o d. let (p, f, e, h, u) = d in feed_never board.make kind (board.cells b) (board.meter b) rule p f own u renter byte before g.done }
+                pub feed_goes : (more : ℕ) → byte < 256 → Call board b rule feeding_of (fed_by kind byte (own.fed + 1)) b' (Ok more)
+                    → Takes board kind b b' (Open rule own) (Open rule (record { renter = own.renter; length = own.length; fed = own.fed + 1; touches = (own.touches + more) % 2 ^ 64 })) (to_feed renter byte) (number (own.length - (own.fed + 1)))
+                feed_goes more small g = record {
+                  kept = g.kept;
+                  goes = λ l o d.
+                      let (p, f, e, h, u) = d in
+                      goes_at board.make kind e h (feed_done board.make kind (board.cells b) (board.meter b) rule p f own u renter byte (board.cells b') (board.meter b') more small mine before g.done.1 (Open rule own) _ refl);
+                }
 
-              pub feed_goes : {b' : B} (more : ℕ) → byte < 256 → Fed b' (Ok more)
-                  → Takes board kind b b' (Open rule own) (Open rule (record { renter = own.renter; length = own.length; fed = own.fed + 1; touches = (own.touches + more) % 2 ^ 64 })) (to_feed renter byte) (number (own.length - (own.fed + 1)))
-              feed_goes {b'} more small g = record {
+              pub finish_refused : (stop : Stop) → ReadingCall board b rule finishing_of (wiped_by kind) b' (Err stop) → Takes board kind b b' (Open rule own) (Open rule own) (to_finish renter) (stopped (stop_number stop))
+              finish_refused stop g = record { kept = g.kept; goes = λ l o d. let (p, f, e, h, u) = d in finish_never board.make kind (board.cells b) (board.meter b) rule p f own u renter g.done }
+
+              pub finish_goes : (mark : M) (more : ℕ) → own.length ≤ own.fed → ReadingCall board b rule finishing_of (wiped_by kind) b' (Ok (mark, more))
+                  → Takes board kind b b' (Open rule own) (Ready rule) (to_finish renter) (verdict mark ((own.touches + more) % 2 ^ 64))
+              finish_goes mark more all g = record {
                 kept = g.kept;
                 goes = λ l o d.
                     let (p, f, e, h, u) = d in
-                    let (en, mv) = g.done in
-                    goes_at board.make kind e h (feed_done board.make kind (board.cells b) (board.meter b) rule p f own u renter byte (board.cells b') (board.meter b') more small mine before mv (Open rule own) _ refl);
+                    goes_at board.make kind e h (finish_done board.make kind (board.cells b) (board.meter b) rule p f own u renter (Open rule own) (board.cells b') (board.meter b') mark more mine all g.done.0 g.done.2);
               }
 
-            abbrev Finished : B → Result (M × ℕ) Stop → Type 0
-            Finished b' r = ReadingCall board b rule finishing_of (wiped_by kind) b' r
+              pub drop_refused : (stop : Stop) → Call board b rule wiping_of (wiped_by kind) b' (Err stop) → Takes board kind b b' (Open rule own) (Open rule own) (to_drop renter) (stopped (stop_number stop))
+              drop_refused stop g = record { kept = g.kept; goes = λ l o d. let (p, f, e, h, u) = d in drop_never board.make kind (board.cells b) (board.meter b) rule p f own u renter g.done }
 
-            pub finish_refused : {b' : B} (stop : Stop) → Finished b' (Err stop) → Takes board kind b b' (Open rule own) (Open rule own) (to_finish renter) (stopped (stop_number stop))
-            finish_refused {b'} stop g = record { kept = g.kept; goes = λ l o d. let (p, f, e, h, u) = d in finish_never board.make kind (board.cells b) (board.meter b) rule p f own u renter g.done }
-
-            pub finish_goes : {b' : B} (mark : M) (more : ℕ) → own.length ≤ own.fed → Finished b' (Ok (mark, more))
-                → Takes board kind b b' (Open rule own) (Ready rule) (to_finish renter) (verdict mark ((own.touches + more) % 2 ^ 64))
-            finish_goes {b'} mark more all g = record {
-              kept = g.kept;
-              goes = λ l o d.
-                  let (p, f, e, h, u) = d in
-                  let (is, en, mv) = g.done in
-                  goes_at board.make kind e h (finish_done board.make kind (board.cells b) (board.meter b) rule p f own u renter (Open rule own) (board.cells b') (board.meter b') mark more mine all is mv);
-            }
-
-            abbrev Dropped : B → Result ℕ Stop → Type 0
-            Dropped b' r = Call board b rule wiping_of (wiped_by kind) b' r
-
-            pub drop_refused : {b' : B} (stop : Stop) → Dropped b' (Err stop) → Takes board kind b b' (Open rule own) (Open rule own) (to_drop renter) (stopped (stop_number stop))
-            drop_refused {b'} stop g = record { kept = g.kept; goes = λ l o d. let (p, f, e, h, u) = d in drop_never board.make kind (board.cells b) (board.meter b) rule p f own u renter g.done }
-
-            pub drop_goes : {b' : B} (more : ℕ) → Dropped b' (Ok more) → Takes board kind b b' (Open rule own) (Ready rule) (to_drop renter) (number ((own.touches + more) % 2 ^ 64))
-            drop_goes {b'} more g = record {
-              kept = g.kept;
-              goes = λ l o d.
-                  let (p, f, e, h, u) = d in
-                  let (en, mv) = g.done in
-                  goes_at board.make kind e h (drop_done board.make kind (board.cells b) (board.meter b) rule p f own u renter (Open rule own) (board.cells b') (board.meter b') more mine mv);
-            }
+              pub drop_goes : (more : ℕ) → Call board b rule wiping_of (wiped_by kind) b' (Ok more) → Takes board kind b b' (Open rule own) (Ready rule) (to_drop renter) (number ((own.touches + more) % 2 ^ 64))
+              drop_goes more g = record {
+                kept = g.kept;
+                goes = λ l o d.
+                    let (p, f, e, h, u) = d in
+                    goes_at board.make kind e h (drop_done board.make kind (board.cells b) (board.meter b) rule p f own u renter (Open rule own) (board.cells b') (board.meter b') more mine g.done.1);
+              }

@@ -11,9 +11,10 @@ use Rattle.mark.specs.Marks.{Kind}
 use Rattle.screen.proofs.Lengths.{length_beginning, length_feeding, length_writes}
 use Rattle.method.proofs.Others.{leave_others, stepped_over_others}
 use Rattle.method.specs.Cells.{across, begun, fed, placed, scanned, settled, stepped_over, wiped}
-use Rattle.screen.specs.Schedules.{beginning, dropped_touches, feeding, finishing, frame_touches, wiping}
+use Rattle.screen.specs.Schedules.{dropped_touches, frame_touches}
 use Rattle.method.specs.Theorems.{LeavesOthers}
 use Rattle.screen.proofs.Wholes.{finish_length}
+use Rattle.screen.specs.ByRule.{beginning_of, begun_by, fed_by, feeding_of, finishing_of, wiped_by, wiping_of}
 use Rattle.screen.specs.Moving.{Lacks, Moves, NotBegun, a_cell, allowance}
 use Rattle.rule.specs.Words.{first_of, second_of, takes_at}
 use Rattle.rule.specs.declared.table.Rule.{Rule}
@@ -85,11 +86,11 @@ lacks_nothing f g (allowance h k) = let z : ⊥ = omega arith in absurd z
 -- Begin.
 module _ {M X : Type 0} (make : Make X) (kind : Kind M) (cells : List M) (meter : X) (rule : Rule) (p : List ℕ) (fitted : Fitted p rule (length cells)) (renter m : ℕ) where
   pub begin_never : {A : Type 0} {number : ℕ} {after cells' : List M} {meter' : X} → frame_touches rule.last m ≤ make.allowed (length cells) meter
-      → NotBegun make cells meter rule.last (beginning (first_of rule.words) (second_of rule.words) rule.last) after cells' meter' number → A
+      → NotBegun make cells meter rule.last (beginning_of rule) after cells' meter' number → A
   begin_never h b = let l = length_beginning (first_of rule.words) (second_of rule.words) rule.last in lacks_nothing fitted.fits (omega arith) b.lacks
 
   module _ (cells' : List M) (meter' : X) (touches : ℕ) (g : m ≤ most_bytes) (h : frame_touches rule.last m ≤ make.allowed (length cells) meter)
-      (mv : Moves make cells meter (beginning (first_of rule.words) (second_of rule.words) rule.last) (begun kind (first_of rule.words) (second_of rule.words) (takes_at rule.words) rule.last cells) cells' meter' touches) where
+      (mv : Moves make cells meter (beginning_of rule) (begun_by kind rule cells) cells' meter' touches) where
     begin_holds : Holds kind fitted.table.accepted.tree [] cells'
     begin_holds =
         let t = fitted.table.accepted.tree in
@@ -131,7 +132,7 @@ module _ {M X : Type 0} (make : Make X) (kind : Kind M) (cells : List M) (meter 
             due =
                 subst (λ z. Due make kind (length cells) meter (Some p) None (to_begin renter m) (number (frame_touches z m))) (sym e)
                 (begin_accepted a g (subst (λ z. frame_touches z m ≤ make.allowed (length cells) meter) e h));
-            touches = beginning (first_of rule.words) (second_of rule.words) rule.last;
+            touches = beginning_of rule;
             makes = by_the_table rule.words begins by_number fitted.table;
             moves = mv.moves;
             sized = begin_size;
@@ -161,7 +162,7 @@ module _ {M X : Type 0} (make : Make X) (kind : Kind M) (cells : List M) (meter 
   -- Feed.
   module _ (renter byte : ℕ) where
     pub feed_never : {A : Type 0} {number : ℕ} {after cells' : List M} {meter' : X} → own.fed < own.length
-        → NotBegun make cells meter n (feeding (first_of rule.words) (second_of rule.words) n) after cells' meter' number → A
+        → NotBegun make cells meter n (feeding_of rule) after cells' meter' number → A
     feed_never h b =
         let l = length_feeding (first_of rule.words) (second_of rule.words) n in
         let a = u.promised in
@@ -172,7 +173,7 @@ module _ {M X : Type 0} (make : Make X) (kind : Kind M) (cells : List M) (meter 
         lacks_nothing u.fitted.fits (omega arith) b.lacks
 
     module _ (cells' : List M) (meter' : X) (more : ℕ) (b : byte < 256) (mine : own.renter ≡ renter) (before : own.fed < own.length)
-        (mv : Moves make cells meter (feeding (first_of rule.words) (second_of rule.words) n) (fed kind (first_of rule.words) (second_of rule.words) (takes_at rule.words) n (own.fed + 1) byte cells) cells' meter' more) where
+        (mv : Moves make cells meter (feeding_of rule) (fed_by kind byte (own.fed + 1) rule cells) cells' meter' more) where
       abbrev now : OpenFrame
       now = record { renter = own.renter; length = own.length; fed = own.fed + 1; touches = (own.touches + more) % 2 ^ 64 }
 
@@ -183,7 +184,7 @@ module _ {M X : Type 0} (make : Make X) (kind : Kind M) (cells : List M) (meter 
       feed_holds =
           let t = u.fitted.table.accepted.tree in
           let i : own.fed + 1 ≡ suc (length f.bytes) = let c = u.fed in omega arith in
-          let e = mv.holds ∙ ap (λ z. fed kind (first_of rule.words) (second_of rule.words) (takes_at rule.words) n z byte cells) i in
+          let e = mv.holds ∙ ap (λ z. fed_by kind byte z rule cells) i in
           subst (λ z. Holds kind t (f.bytes ++ (byte ∷ [])) z) (sym e)
           (fed_holds kind t n (first_of rule.words) (second_of rule.words) (takes_at rule.words) (table_tells t n rule.words u.fitted.table.table) f.bytes byte b cells u.fitted.fits u.holds)
 
@@ -228,7 +229,7 @@ module _ {M X : Type 0} (make : Make X) (kind : Kind M) (cells : List M) (meter 
           record {
             done = record {
               due = subst (λ z. Due make kind (length cells) meter (Some p) (Some f) (to_feed renter byte) (number z)) g (feed_accepted (sym u.renter ∙ mine) (omega arith));
-              touches = feeding (first_of rule.words) (second_of rule.words) n;
+              touches = feeding_of rule;
               makes = by_the_table rule.words feeds by_number u.fitted.table;
               moves = mv.moves;
               sized = feed_size;
@@ -243,7 +244,7 @@ module _ {M X : Type 0} (make : Make X) (kind : Kind M) (cells : List M) (meter 
           }
 
   -- the cells of a frame that has ended
-  module _ (cells' : List M) (e : cells' ≡ wiped kind.nothing n cells) where
+  module _ (cells' : List M) (e : cells' ≡ wiped_by kind rule cells) where
     wiped_size : length cells' ≡ length cells
     wiped_size = ap length e ∙ ((leave_others M).wiping kind.nothing n cells).long
 
@@ -261,11 +262,11 @@ module _ {M X : Type 0} (make : Make X) (kind : Kind M) (cells : List M) (meter 
   -- Finish.
   module _ (renter : ℕ) where
     pub finish_never : {A : Type 0} {number : ℕ} {after cells' : List M} {meter' : X}
-        → NotBegun make cells meter n (finishing (first_of rule.words) (second_of rule.words) n) after cells' meter' number → A
+        → NotBegun make cells meter n (finishing_of rule) after cells' meter' number → A
     finish_never b = let l = finish_length rule.words n in let r = u.allowed in lacks_nothing u.fitted.fits (omega arith) b.lacks
 
     pub finish_done : (state : State) (cells' : List M) (meter' : X) (mark : M) (more : ℕ) → own.renter ≡ renter → own.length ≤ own.fed → mark ≡ get_or cells n mark
-        → Moves make cells meter (finishing (first_of rule.words) (second_of rule.words) n) (wiped kind.nothing n cells) cells' meter' more
+        → Moves make cells meter (finishing_of rule) (wiped_by kind rule cells) cells' meter' more
         → Goes make kind (Some p) (Some f) state cells meter (to_finish renter) (verdict mark ((own.touches + more) % 2 ^ 64)) (Ready rule) cells' meter'
     finish_done state cells' meter' mark more mine all is mv =
         let a = u.fitted.table.accepted in
@@ -286,7 +287,7 @@ module _ {M X : Type 0} (make : Make X) (kind : Kind M) (cells : List M) (meter 
         record {
           done = record {
             due = subst (λ z. Due make kind (length cells) meter (Some p) (Some f) (to_finish renter) (verdict mark z)) (sym count) due;
-            touches = finishing (first_of rule.words) (second_of rule.words) n;
+            touches = finishing_of rule;
             makes = by_the_table rule.words finishes by_verdict u.fitted.table;
             moves = mv.moves;
             sized = wiped_size cells' mv.holds;
@@ -299,10 +300,10 @@ module _ {M X : Type 0} (make : Make X) (kind : Kind M) (cells : List M) (meter 
 
   -- Drop.
   module _ (renter : ℕ) where
-    pub drop_never : {A : Type 0} {number : ℕ} {after cells' : List M} {meter' : X} → NotBegun make cells meter n (wiping n) after cells' meter' number → A
+    pub drop_never : {A : Type 0} {number : ℕ} {after cells' : List M} {meter' : X} → NotBegun make cells meter n (wiping_of rule) after cells' meter' number → A
     drop_never b = let l = length_writes (suc n) 0 in let r = u.allowed in lacks_nothing u.fitted.fits (omega arith) b.lacks
 
-    pub drop_done : (state : State) (cells' : List M) (meter' : X) (more : ℕ) → own.renter ≡ renter → Moves make cells meter (wiping n) (wiped kind.nothing n cells) cells' meter' more
+    pub drop_done : (state : State) (cells' : List M) (meter' : X) (more : ℕ) → own.renter ≡ renter → Moves make cells meter (wiping_of rule) (wiped_by kind rule cells) cells' meter' more
         → Goes make kind (Some p) (Some f) state cells meter (to_drop renter) (number ((own.touches + more) % 2 ^ 64)) (Ready rule) cells' meter'
     drop_done state cells' meter' more mine mv =
         let a = u.fitted.table.accepted in
@@ -315,7 +316,7 @@ module _ {M X : Type 0} (make : Make X) (kind : Kind M) (cells : List M) (meter 
         record {
           done = record {
             due = subst (λ z. Due make kind (length cells) meter (Some p) (Some f) (to_drop renter) (number z)) (sym count) (drop_accepted a (sym u.renter ∙ mine));
-            touches = wiping n;
+            touches = wiping_of rule;
             makes = by_the_table rule.words drops by_number u.fitted.table;
             moves = mv.moves;
             sized = wiped_size cells' mv.holds;

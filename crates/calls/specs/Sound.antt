@@ -1,5 +1,5 @@
 -- When a screen is sound, and what a call on a sound screen does.
-use Rattle.std.specs.Prelude.{◌≡◌, ℕ, ◌+◌, ◌-◌, ◌*◌, ◌<◌, ◌≤◌, List, length, Some, None, Option}
+use Rattle.std.specs.Prelude.{◌≡◌, ℕ, ◌+◌, ◌-◌, ◌*◌, ◌<◌, ◌≤◌, List, length, Some, None, Ok, Err, Option, Result}
 use Rattle.board.specs.Boards.{Make}
 use Rattle.board.specs.declared.Board.{Ghosts}
 use Rattle.conduct.specs.Calls.{AcceptedBy, Frame, Order, Said, loaded_after, open_after, stopped}
@@ -12,6 +12,8 @@ use Rattle.calls.specs.declared.Screen.{Screen}
 use Rattle.calls.specs.declared.frame.OpenFrame.{OpenFrame}
 use Rattle.calls.specs.declared.frame.State.TheVariants.{Empty, Open, Ready}
 use Rattle.calls.specs.declared.frame.State.{State}
+use Rattle.stops.specs.Stops.{stop_number}
+use Rattle.stops.specs.declared.Stop.{Stop}
 use Rattle.theory.specs.Meaning.{Bytes, Holds}
 
 -- the touches made for a frame under a rule that ends at n once k bytes are fed, and those that it still takes with i bytes to come
@@ -62,6 +64,11 @@ module _ {B M : Type 0} (board : Ghosts B M) (kind : Kind M) where
     pub kept : board.keeps.same old new
     pub goes : (l : Option (List ℕ)) (o : Option Frame) → Sound board.make kind l o state (board.cells old) (board.meter old)
         → Goes board.make kind l o state (board.cells old) (board.meter old) call said state' (board.cells new) (board.meter new)
+
+  -- a call that is told this of its answer, and leads to this state; where it stops, the state stays
+  abbrev pub Leads : {A : Type 0} → B → B → State → (A → State) → Order → (A → Said M) → Result A Stop → Type 0
+  Leads old new state after call told (Ok a) = Takes old new state (after a) call (told a)
+  Leads old new state after call told (Err s) = Takes old new state state call (stopped (stop_number s))
 
   -- the screen is sound, with this pattern loaded and this frame open
   abbrev pub SoundScreen : Option (List ℕ) → Option Frame → Screen B → Type 0

@@ -6,14 +6,13 @@
 mod call;
 mod frame;
 
-ghost use Rattle.std.specs.Prelude.{◌≡◌, ◌≤◌, length, None, MatchResult};
-ghost use Rattle.conduct.specs.Calls.{number, stopped, to_begin, to_drop, to_feed, to_finish, to_load, to_meter, verdict};
+ghost use Rattle.std.specs.Prelude.{◌≡◌, ◌≤◌, length, None};
+ghost use Rattle.conduct.specs.Calls.{number, to_begin, to_drop, to_feed, to_finish, to_load, to_meter, verdict};
 ghost use Rattle.mark.specs.Limits.{most_bytes};
 ghost use Rattle.screen.specs.Schedules.{frame_touches};
-ghost use Rattle.calls.specs.Sound.{Conducts, SoundScreen, Takes};
+ghost use Rattle.calls.specs.Sound.{Conducts, Leads, SoundScreen, Takes};
 ghost use Rattle.calls.specs.Told.{Unopened, order, said, said_at, said_number, said_verdict};
 ghost use Rattle.calls.specs.declared.frame.State.TheVariants.{Open, Ready};
-ghost use Rattle.stops.specs.Stops.{stop_number};
 
 use board::Board;
 pub use call::{Answer, Call, Refusal};
@@ -53,7 +52,7 @@ fn begin_ready<B: Board>(
     renter: u8,
     length: u64,
 ) -> Result<(u64, OpenFrame), Stop>
-    ensures { MatchResult result (λ r. Takes B.Board B.M.Mark.kind board.old board.new (Ready rule.now) (Open rule.now r.1) (to_begin renter length) (number r.0)) (λ stop. Takes B.Board B.M.Mark.kind board.old board.new (Ready rule.now) (Ready rule.now) (to_begin renter length) (stopped (stop_number stop))) }
+    ensures { Leads B.Board B.M.Mark.kind board.old board.new (Ready rule.now) (λ r. Open rule.now r.1) (to_begin renter length) (λ r. number r.0) result }
 {
     if length > u64::from(MOST_BYTES) {
         return Err(Stop::FrameTooLong);
@@ -100,7 +99,7 @@ fn finish_open<B: Board>(
     frame: OpenFrame,
     renter: u8,
 ) -> Result<(B::M, u64), Stop>
-    ensures { MatchResult result (λ r. Takes B.Board B.M.Mark.kind board.old board.new (Open rule.now frame) (Ready rule.now) (to_finish renter) (verdict r.0 r.1)) (λ stop. Takes B.Board B.M.Mark.kind board.old board.new (Open rule.now frame) (Open rule.now frame) (to_finish renter) (stopped (stop_number stop))) }
+    ensures { Leads B.Board B.M.Mark.kind board.old board.new (Open rule.now frame) (λ _. Ready rule.now) (to_finish renter) (λ r. verdict r.0 r.1) result }
 {
     frame.check_renter(renter)?;
     if frame.fed < frame.length {
@@ -117,7 +116,7 @@ fn drop_open<B: Board>(
     frame: OpenFrame,
     renter: u8,
 ) -> Result<u64, Stop>
-    ensures { MatchResult result (λ touches. Takes B.Board B.M.Mark.kind board.old board.new (Open rule.now frame) (Ready rule.now) (to_drop renter) (number touches)) (λ stop. Takes B.Board B.M.Mark.kind board.old board.new (Open rule.now frame) (Open rule.now frame) (to_drop renter) (stopped (stop_number stop))) }
+    ensures { Leads B.Board B.M.Mark.kind board.old board.new (Open rule.now frame) (λ _. Ready rule.now) (to_drop renter) number result }
 {
     frame.check_renter(renter)?;
     let more = wipe_cells(board, rule)?;
@@ -207,9 +206,9 @@ impl<'b, B: Board> Screen<'b, B> {
         let State::Open(rule, frame) = &self.state else {
             return Err(Stop::NoFrame);
         };
-        let touches = drop_open(self.board, rule, *frame, renter)?;
+        let made = drop_open(self.board, rule, *frame, renter)?;
         self.state.close();
-        Ok(touches)
+        Ok(made)
     }
 
     /// What the board's meter shows.

@@ -4,10 +4,10 @@
 #![tactic(auto)]
 
 use board::{Board, Counting};
-use calls::{Answer, Call, Refusal};
+use calls::{Answer, Call};
 use mark::YesNo;
-use runs::play_both;
-use std::io;
+use runs::{Told, play_both};
+use std::{fmt, io};
 
 /// The cells of each board.
 const CELLS: usize = 16;
@@ -15,7 +15,7 @@ const CELLS: usize = 16;
 const CALLS: usize = 15;
 
 /// A night's calls, with the payload of renter 2.
-fn night<'a>(pattern: &'a [u8], payload: [u8; 3]) -> [Call<'a>; CALLS] {
+fn calls_with<'a>(pattern: &'a [u8], payload: [u8; 3]) -> [Call<'a>; CALLS] {
     let [a, b, c] = payload;
     [
         Call::Load(pattern),
@@ -51,47 +51,66 @@ fn night<'a>(pattern: &'a [u8], payload: [u8; 3]) -> [Call<'a>; CALLS] {
     ]
 }
 
-/// A call without the byte that it feeds.
-fn call_text(rt: &HostRuntime, call: &Call<'_>) -> io::Result<String> {
-    let text = match call {
-        Call::Load(_) => format!(in rt.alloc(); "load")?,
-        Call::Begin { renter, length } => format!(in rt.alloc(); "begin {renter} {length}")?,
-        Call::Feed { renter, .. } => format!(in rt.alloc(); "feed {renter}")?,
-        Call::Finish { renter } => format!(in rt.alloc(); "finish {renter}")?,
-        Call::Drop { renter } => format!(in rt.alloc(); "drop {renter}")?,
-        Call::Meter => format!(in rt.alloc(); "meter")?,
-    };
-    Ok(text)
+/// A call, printed without the byte that it feeds.
+#[derive(Drop)]
+struct Asked<'a>(Call<'a>);
+
+impl fmt::Display for Asked<'_> {
+    fn fmt<W: fmt::Write>(&self, f: &mut fmt::Formatter<W>) -> fmt::Result {
+        match self.0 {
+            Call::Load(_) => write!(f, "load"),
+            Call::Begin { renter, length } => write!(f, "begin {renter} {length}"),
+            Call::Feed { renter, .. } => write!(f, "feed {renter}"),
+            Call::Finish { renter } => write!(f, "finish {renter}"),
+            Call::Drop { renter } => write!(f, "drop {renter}"),
+            Call::Meter => write!(f, "meter"),
+        }
+    }
 }
 
-/// What a call was told.
-fn told_text(rt: &HostRuntime, told: &Result<Answer<YesNo>, Refusal>) -> io::Result<String> {
-    let text = match told {
-        Ok(Answer::Number(number)) => format!(in rt.alloc(); "{number}")?,
-        Ok(Answer::Verdict(YesNo::Yes, touches)) => format!(in rt.alloc(); "yes, {touches}")?,
-        Ok(Answer::Verdict(YesNo::Nothing, touches)) => format!(in rt.alloc();
-            "nothing, {touches}"
-        )?,
-        Err(refusal) => {
-            let number = refusal.stop.number();
-            format!(in rt.alloc(); "stop {number}")?
+/// What a call was told, as it is printed.
+#[derive(Drop)]
+struct Heard(Told<YesNo>);
+
+impl fmt::Display for Heard {
+    fn fmt<W: fmt::Write>(&self, f: &mut fmt::Formatter<W>) -> fmt::Result {
+        match self.0 {
+            Ok(Answer::Number(number)) => write!(f, "{number}"),
+            Ok(Answer::Verdict(YesNo::Yes, touches)) => write!(f, "yes, {touches}"),
+            Ok(Answer::Verdict(YesNo::Nothing, touches)) => write!(f, "nothing, {touches}"),
+            Err(refusal) => {
+                let number = refusal.stop.number();
+                write!(f, "stop {number}")
+            }
         }
-    };
-    Ok(text)
+    }
+}
+
+/// What each call of a night is told.
+type Answers = [Told<YesNo>; CALLS];
+
+/// A night in which renter 2 feeds `payload`: its calls, the cells of its board, which first hold `mark`, and memory for what it is told.
+fn night<'a>(
+    pattern: &'a [u8],
+    payload: [u8; 3],
+    mark: YesNo,
+) -> ([Call<'a>; CALLS], [YesNo; CELLS], Answers) {
+    let told = [Ok(Answer::Number(0)); CALLS];
+    (calls_with(pattern, payload), [mark; CELLS], told)
 }
 
 /// Prints both runs, call by call.
 fn show_runs(
     rt: &HostRuntime,
     calls: &[Call<'_>],
-    left: &[Result<Answer<YesNo>, Refusal>],
-    right: &[Result<Answer<YesNo>, Refusal>],
+    left: &Answers,
+    right: &Answers,
 ) -> io::Result<()> {
     println!(rt; "call       one run       the other")?;
     for ((call, one), other) in calls.iter().zip(left).zip(right) {
-        let call = call_text(rt, call)?;
-        let one = told_text(rt, one)?;
-        let other = told_text(rt, other)?;
+        let call = Asked(*call).to_string(rt.alloc())?;
+        let one = Heard(*one).to_string(rt.alloc())?;
+        let other = Heard(*other).to_string(rt.alloc())?;
         println!(rt; "{call:<9}  {one:<12}  {other}")?;
     }
     Ok(())
@@ -99,12 +118,8 @@ fn show_runs(
 
 fn main(rt: HostRuntime) -> io::Result<()> {
     let pattern = b"(A)*B|C";
-    let left_calls = night(pattern, *b"AAB");
-    let right_calls = night(pattern, *b"A?B");
-    let mut left_cells = [YesNo::Nothing; CELLS];
-    let mut right_cells = [YesNo::Yes; CELLS];
-    let mut left_told = [Ok(Answer::Number(0)); CALLS];
-    let mut right_told = [Ok(Answer::Number(0)); CALLS];
+    let (left_calls, mut left_cells, mut left_told) = night(pattern, *b"AAB", YesNo::Nothing);
+    let (right_calls, mut right_cells, mut right_told) = night(pattern, *b"A?B", YesNo::Yes);
     let mut left = Counting::new(&mut left_cells);
     let mut right = Counting::new(&mut right_cells);
     play_both(
