@@ -2,9 +2,9 @@ use Rattle.std.proofs.Common.{suc, length, arith, rules}
 use Rattle.std.proofs.lemmas.Result.{err_from_is_err_and}
 use Rattle.screen.proofs.Lengths.{length_writes}
 use Rattle.screen.proofs.Wholes.{carried, enough_wipe, call_left_out, never}
-use Rattle.screen.proofs.wipe_cells.Given.{Over}
-use Rattle.screen.proofs.wipe_cells.Goals as goal
-use Rattle.screen.proofs.wipe_cells.Goals.{In_ok-admit}
+use Rattle.screen.proofs.movements.wipe_cells.Given.{Over}
+use Rattle.screen.proofs.movements.wipe_cells.Goals as goal
+use Rattle.screen.proofs.movements.wipe_cells.Goals.{In_ok-admit}
 use Rattle.screen.specs.ByRule.{wiping_of}
 use Rattle.screen.specs.Movements.{cells_on, meter_on}
 use Rattle.screen.specs.Moving.{Enough}

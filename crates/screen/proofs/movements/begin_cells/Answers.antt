@@ -3,9 +3,9 @@ use Rattle.std.proofs.lemmas.Result.{err_from_is_err_and}
 use Rattle.rule.specs.Words.{first_of, second_of}
 use Rattle.screen.proofs.Lengths.{length_beginning, length_writes}
 use Rattle.screen.proofs.Wholes.{begin_cut, begin_on, carried, enough_begin, call_left_out, never}
-use Rattle.screen.proofs.begin_cells.Given.{Over}
-use Rattle.screen.proofs.begin_cells.Goals as goal
-use Rattle.screen.proofs.begin_cells.Goals.{In_ok-admit}
+use Rattle.screen.proofs.movements.begin_cells.Given.{Over}
+use Rattle.screen.proofs.movements.begin_cells.Goals as goal
+use Rattle.screen.proofs.movements.begin_cells.Goals.{In_ok-admit}
 use Rattle.screen.specs.ByRule.{beginning_of}
 use Rattle.screen.specs.Movements.{cells_on, meter_on}
 use Rattle.screen.specs.Moving.{Enough}

@@ -1,9 +1,9 @@
 use Rattle.std.proofs.Common.{length, arith, rules}
 use Rattle.std.proofs.lemmas.Result.{err_from_is_err_and}
 use Rattle.screen.proofs.Wholes.{carried_with, enough_finish, finish_length, finish_mark, finish_on, reading_left_out, never}
-use Rattle.screen.proofs.finish_cells.Given.{Over}
-use Rattle.screen.proofs.finish_cells.Goals as goal
-use Rattle.screen.proofs.finish_cells.Goals.{In_ok-admit}
+use Rattle.screen.proofs.movements.finish_cells.Given.{Over}
+use Rattle.screen.proofs.movements.finish_cells.Goals as goal
+use Rattle.screen.proofs.movements.finish_cells.Goals.{In_ok-admit}
 use Rattle.screen.specs.ByRule.{finishing_of}
 use Rattle.screen.specs.Movements.{cells_on, meter_on}
 use Rattle.screen.specs.Moving.{Enough}

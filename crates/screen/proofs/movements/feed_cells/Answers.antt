@@ -3,9 +3,9 @@ use Rattle.std.proofs.lemmas.Result.{err_from_is_err_and}
 use Rattle.rule.specs.Words.{first_of, second_of}
 use Rattle.screen.proofs.Lengths.{length_feeding, length_stepping}
 use Rattle.screen.proofs.Wholes.{carried, enough_feed, feed_cut, feed_on, call_left_out, never}
-use Rattle.screen.proofs.feed_cells.Given.{Over}
-use Rattle.screen.proofs.feed_cells.Goals as goal
-use Rattle.screen.proofs.feed_cells.Goals.{In_ok-admit}
+use Rattle.screen.proofs.movements.feed_cells.Given.{Over}
+use Rattle.screen.proofs.movements.feed_cells.Goals as goal
+use Rattle.screen.proofs.movements.feed_cells.Goals.{In_ok-admit}
 use Rattle.screen.specs.ByRule.{feeding_of}
 use Rattle.screen.specs.Movements.{cells_on, meter_on}
 use Rattle.screen.specs.Moving.{Enough}
