@@ -1,5 +1,6 @@
 -- The words of the rule table.
 use Rattle.std.specs.Prelude.{◌≡◌, ℕ, ◌/◌, ◌%◌, ◌<◌, Bool, cond, List, Some, None, Option, Result, MatchResult, ◌==◌, ◌≢◌, nat_lt, slice_index_or}
+use Rattle.rule.specs.declared.word.Entry.{Entry}
 use Rattle.rule.specs.declared.word.Kind.TheVariants as kind
 use Rattle.rule.specs.declared.word.Kind.{Kind}
 use Rattle.rule.specs.declared.word.UnknownKind.{UnknownKind}
@@ -89,6 +90,10 @@ Numbered number r = MatchResult r (λ k. kind_number k ≡ number) (λ e. (e.0 �
 -- the word's kind is no kind's number
 abbrev pub NoKind : ℕ → Type 0
 NoKind word = (k : Kind) → kind_number k ≢ word / 0x1000_0000
+
+-- what the word says, or the number in it where that is no kind's
+abbrev pub TakenApart : ℕ → Result Entry UnknownKind → Type 0
+TakenApart word r = MatchResult r (λ e. Says word e.kind e.byte e.first e.second) (λ e. (e.0 ≡ word / 0x1000_0000) × NoKind word)
 
 -- a position of the table, or none
 abbrev pub Position : Option ℕ → Type 0

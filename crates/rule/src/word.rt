@@ -1,7 +1,7 @@
 //! The words of the rule table: what a position is, and which positions link to it.
 
-ghost use Rattle.std.specs.Prelude.{◌≡◌, ◌/◌, ◌%◌, ◌<◌, MatchResult};
-ghost use Rattle.rule.specs.Words.{Holds, NoKind, Numbered, Says, first_in, kind_number, kind_of, position_in, second_in, word_takes};
+ghost use Rattle.std.specs.Prelude.{◌≡◌, ◌/◌, ◌%◌, ◌<◌};
+ghost use Rattle.rule.specs.Words.{Holds, Numbered, TakenApart, first_in, kind_number, kind_of, position_in, second_in, word_takes};
 
 use std::error::Error;
 use std::fmt;
@@ -151,7 +151,7 @@ pub(crate) fn takes(word: u32, byte: u8) -> bool
 impl TryFrom<u32> for Entry {
     type Error = UnknownKind;
 
-    ghost try_from_gives = { λ word r. MatchResult r (λ e. Says word e.kind e.byte e.first e.second) (λ e. (e.0 ≡ word / 0x1000_0000) × NoKind word) };
+    ghost try_from_gives = { TakenApart };
 
     fn try_from(word: u32) -> Result<Entry, UnknownKind> {
         let (first, second) = predecessors(word);
