@@ -1,4 +1,5 @@
 pub mod Boards
 pub mod Makes
 pub mod Lent
+pub mod Meters
 pub mod Traced

@@ -3,19 +3,25 @@
 #![tactic(auto)]
 
 mod counting;
+mod meter;
+mod metered;
 mod row;
 mod slice;
+mod touch;
 mod trace;
 
 ghost use Rattle.std.specs.Prelude.{◌≡◌, ◌≤◌, List, length};
 ghost use Rattle.board.specs.Boards.{Keeps, Make, Reads, Writes, most_cells};
 
-pub use counting::Counting;
+pub use counting::{Counting, TouchMeter};
 use mark::Mark;
-pub use row::Row;
+pub use meter::Meter;
+pub use metered::Metered;
+pub use row::{Row, RowMeter};
 pub use slice::MOST_CELLS;
 use stops::Stop;
-pub use trace::Trace;
+pub use touch::Touch;
+pub use trace::{Trace, WordMeter};
 
 /// A board. Its meaning is a list of marks and a meter; a make of board says by `make` how an access moves the meter and
 /// what it shows. An accepted read or write is a touch.

@@ -8,10 +8,8 @@ use Rattle.language.specs.Links.{last_position}
 use Rattle.language.specs.Patterns.{Accepted}
 use Rattle.mark.specs.Joins.{JoinOf}
 use Rattle.mark.specs.Marks.{Kind}
-use Rattle.mark.specs.Tail.{tail, tail_seed}
+use Rattle.mark.specs.Tail.{Tail, tail, tail_seed}
 use Rattle.mark.specs.YesNo.{yes_no}
-use Rattle.mark.specs.declared.tail.Tail.TheVariants as tails
-use Rattle.mark.specs.declared.tail.Tail.{Tail}
 use Rattle.mark.specs.declared.yes_no.YesNo.TheVariants.{Nothing, Yes}
 use Rattle.mark.specs.declared.yes_no.YesNo.{YesNo}
 use Rattle.method.specs.Cells.{scanned}
@@ -103,7 +101,7 @@ worked_cases =
     yes_no_verdict (codes "a.") (codes "zz") Nothing ∷
     tail_verdict (codes "U*") (codes "aUU") (tail_seed 1) ∷
     tail_verdict (codes "U*") (codes "aUa") (tail_seed 3) ∷
-    tail_verdict (codes "a") (codes "b") tails.Nothing ∷
+    tail_verdict (codes "a") (codes "b") None ∷
     one_scan_misses (codes "(a)*") (0x200FFFFF ∷ 0x20000004 ∷ 0x061007FF ∷ 0x400FFFFF ∷ 0x50000403 ∷ 0x400013FF ∷ 0xF00017FF ∷ []) (yes_in 7 (3 ∷ [])) 1 ∷
     finished (codes "") (codes "") Yes 31 ∷
     finished (codes "") (codes "a") Nothing 60 ∷

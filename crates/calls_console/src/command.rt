@@ -1,15 +1,16 @@
 //! The lines that the console reads.
 
-ghost use Rattle.std.specs.Prelude.{◌≡◌, ℕ, ◌<◌, codes, MatchBool};
-ghost use Rattle.calls_console.specs.Lines.{Blank, Comment, Divides, Means, Reads};
+ghost use Rattle.std.specs.Prelude.{ℕ, List, MatchOption};
+ghost use Rattle.calls_console.specs.Lines.{Means, OfFrame, OfText, Reads};
 
 use crate::number::{number, renter_number};
+use lines::{Escaped, Parts, is_blank, is_comment};
+use std::error::Error;
+use std::fmt;
 
-/// What a line asks for.
-#[derive(Clone, Copy)]
+/// What the console can be asked for.
+#[derive(Clone, Copy, Debug, PartialEq, Eq)]
 pub enum Command<'a> {
-    /// Nothing: the line is blank or a comment.
-    Nothing,
     /// To load the pattern.
     Load(&'a [u8]),
     /// To begin a frame of a renter, of so many bytes.
@@ -22,142 +23,83 @@ pub enum Command<'a> {
     Drop { renter: u8 },
     /// To read the meter.
     Meter,
-    /// What the console does not know.
-    Unknown,
 }
 
-/// A line taken apart at its first space: the word before it, and all that follows it.
-#[derive(Clone, Copy)]
-struct Parts<'a> {
-    word: &'a [u8],
-    rest: &'a [u8],
+/// A line that asks for what the console does not know.
+#[derive(Clone, Copy, Debug, PartialEq, Eq)]
+pub struct Unknown<'a> {
+    pub line: &'a [u8],
 }
 
-/// Whether a line has nothing but spaces.
-fn is_blank(line: &[u8]) -> bool
-    ensures { MatchBool result (Blank line.now) (Blank line.now → ⊥) }
-{
-    for b in line {
-        if *b != b' ' {
-            return false;
-        }
-    }
-    true
-}
-
-/// Whether a line begins with `#`.
-fn is_comment(line: &[u8]) -> bool
-    ensures { MatchBool result (Comment line.now) (Comment line.now → ⊥) }
-{
-    matches!(line, [b'#', ..])
-}
-
-/// Takes a line apart.
-fn divide(line: &[u8]) -> Parts<'_>
-    ensures { Divides line.now result.word.now result.rest.now }
-{
-    for (i, b) in line.iter().enumerate() {
-        if *b == b' ' {
-            return Parts {
-                word: &line[0..i],
-                rest: &line[i + 1..],
-            };
-        }
-    }
-    Parts {
-        word: line,
-        rest: &[],
+/// The line, and what is known.
+impl fmt::Display for Unknown<'_> {
+    fn fmt<W: fmt::Write>(&self, f: &mut fmt::Formatter<W>) -> fmt::Result {
+        let line = Escaped(self.line);
+        writeln!(f, "unknown command: {line}")?;
+        writeln!(
+            f,
+            "  known are: load PATTERN, begin RENTER LENGTH, feed RENTER TEXT, finish RENTER, drop RENTER, meter,"
+        )?;
+        f.write_str("  and lines that are blank or begin with #")
     }
 }
+
+impl Error for Unknown<'_> {}
 
 /// Reads `RENTER LENGTH`.
-fn begin<'a>(rest: &'a [u8]) -> Command<'a>
-    ensures { Reads (codes "begin") rest.now result }
+fn frame(rest: &[u8]) -> Option<(u8, u64)>
+    ensures { MatchOption result ((renter bytes : ℕ) → OfFrame rest.now renter bytes → ⊥) (λ f. OfFrame rest.now f.0 f.1) }
 {
-    let parts = divide(rest);
-    let Some(renter) = renter_number(parts.word) else {
-        return Command::Unknown;
-    };
-    match number(parts.rest) {
-        Some(length) => Command::Begin { renter, length },
-        None => Command::Unknown,
-    }
+    let parts = Parts::of(rest);
+    Some((renter_number(parts.word)?, number(parts.rest)?))
 }
 
 /// Reads `RENTER TEXT`.
-fn feed<'a>(rest: &'a [u8]) -> Command<'a>
-    ensures { Reads (codes "feed") rest.now result }
+fn text(rest: &[u8]) -> Option<(u8, &[u8])>
+    ensures { MatchOption result ((renter : ℕ) (bytes : List ℕ) → OfText rest.now renter bytes → ⊥) (λ t. OfText rest.now t.0 t.1.now) }
 {
-    let parts = divide(rest);
-    match renter_number(parts.word) {
-        Some(renter) => Command::Feed {
-            renter,
-            text: parts.rest,
-        },
-        None => Command::Unknown,
-    }
-}
-
-/// Reads the `RENTER` of a finish.
-fn finish<'a>(rest: &'a [u8]) -> Command<'a>
-    ensures { Reads (codes "finish") rest.now result }
-{
-    match renter_number(rest) {
-        Some(renter) => Command::Finish { renter },
-        None => Command::Unknown,
-    }
-}
-
-/// Reads the `RENTER` of a drop.
-fn drop<'a>(rest: &'a [u8]) -> Command<'a>
-    ensures { Reads (codes "drop") rest.now result }
-{
-    match renter_number(rest) {
-        Some(renter) => Command::Drop { renter },
-        None => Command::Unknown,
-    }
-}
-
-/// Reads what stands behind `meter`, which is nothing.
-fn meter<'a>(rest: &'a [u8]) -> Command<'a>
-    ensures { Reads (codes "meter") rest.now result }
-{
-    if rest.is_empty() {
-        Command::Meter
-    } else {
-        Command::Unknown
-    }
+    let parts = Parts::of(rest);
+    Some((renter_number(parts.word)?, parts.rest))
 }
 
 /// What a word asks for with what stands behind it.
-fn asked<'a>(parts: Parts<'a>) -> Command<'a>
+fn asked(parts: Parts<'_>) -> Option<Command<'_>>
     ensures { Reads parts.entry.word.now parts.entry.rest.now result }
 {
-    if parts.word == b"load".as_slice() {
-        Command::Load(parts.rest)
-    } else if parts.word == b"begin".as_slice() {
-        begin(parts.rest)
-    } else if parts.word == b"feed".as_slice() {
-        feed(parts.rest)
-    } else if parts.word == b"finish".as_slice() {
-        finish(parts.rest)
-    } else if parts.word == b"drop".as_slice() {
-        drop(parts.rest)
-    } else if parts.word == b"meter".as_slice() {
-        meter(parts.rest)
-    } else {
-        Command::Unknown
+    match parts.word {
+        b"load" => Some(Command::Load(parts.rest)),
+        b"begin" => {
+            let (renter, length) = frame(parts.rest)?;
+            Some(Command::Begin { renter, length })
+        }
+        b"feed" => {
+            let (renter, text) = text(parts.rest)?;
+            Some(Command::Feed { renter, text })
+        }
+        b"finish" => {
+            let renter = renter_number(parts.rest)?;
+            Some(Command::Finish { renter })
+        }
+        b"drop" => {
+            let renter = renter_number(parts.rest)?;
+            Some(Command::Drop { renter })
+        }
+        b"meter" => parts.rest.is_empty().then_some(Command::Meter),
+        _ => None,
     }
 }
 
 impl<'a> Command<'a> {
-    /// What a line asks for.
-    pub fn of_line(line: &'a [u8]) -> Command<'a>
+    /// What a line asks for; nothing where it is blank or a comment.
+    pub fn of_line(line: &'a [u8]) -> Result<Option<Command<'a>>, Unknown<'a>>
         ensures { Means line.now result }
     {
         if is_blank(line) || is_comment(line) {
-            return Command::Nothing;
+            return Ok(None);
         }
-        asked(divide(line))
+        match asked(Parts::of(line)) {
+            Some(command) => Ok(Some(command)),
+            None => Err(Unknown { line }),
+        }
     }
 }

@@ -10,9 +10,10 @@ mod show;
 use board::Counting;
 use calls::Screen;
 use command::Command;
+use lines::{Escaped, Kept, Table, Units};
 use mark::YesNo;
 use rule::read;
-use show::{show_bytes, show_rule, show_units};
+use show::{Answer, Told};
 use std::io;
 use std::io::{BufRead, BufReader};
 use stops::Stop;
@@ -20,179 +21,106 @@ use stops::Stop;
 /// The cells of the board, as many as the longest pattern takes.
 const CELLS: usize = 1023;
 
-/// The screen that the calls are made on, and the number of its rule's last position.
+/// The screen that the calls are made on, the number of its rule's last position, and where to print.
 #[derive(Drop)]
-struct Console<'b, 'a> {
+struct Console<'r, 'b, 'a> {
+    rt: &'r HostRuntime,
     screen: Screen<'b, Counting<'a, YesNo>>,
     last: Option<u16>,
 }
 
-/// Prints a stop.
-fn show_stop(rt: &HostRuntime, stop: Stop) -> io::Result<()> {
-    let number = stop.number();
-    print!(rt; "stop {number}: {stop}")
-}
-
-/// Prints a verdict.
-fn show_verdict(rt: &HostRuntime, verdict: YesNo) -> io::Result<()> {
-    match verdict {
-        YesNo::Nothing => print!(rt; "verdict nothing"),
-        YesNo::Yes => print!(rt; "verdict yes"),
-    }
-}
-
-/// Prints the table of a pattern.
-fn show_table(rt: &HostRuntime, pattern: &[u8]) -> io::Result<()> {
-    match read(pattern) {
-        Ok(rule) => show_rule(rt, &rule),
-        Err(_) => Ok(()),
-    }
-}
-
-/// Prints which rule is there after a load was refused.
-fn show_kept(rt: &HostRuntime, last: Option<u16>) -> io::Result<()> {
-    match last {
-        Some(last) => println!(rt; "  the rule before stays: n = {last}"),
-        None => println!(rt; "  no rule is loaded"),
-    }
-}
-
-impl<'b, 'a> Console<'b, 'a> {
-    /// Ends the line of an answer by the meter's reading.
-    fn show_meter(&self, rt: &HostRuntime) -> io::Result<()> {
-        let reading = self.screen.meter();
-        println!(rt; "; meter {reading}")
+impl Console<'_, '_, '_> {
+    /// Prints the table of a pattern.
+    fn show_table(&self, pattern: &[u8]) -> io::Result<()> {
+        match read(pattern) {
+            Ok(rule) => print!(self.rt; "{}", Table(&rule)),
+            Err(_) => Ok(()),
+        }
     }
 
     /// Loads a pattern and prints its units, the answer and the table, or the stop and the rule that stays.
-    fn load(&mut self, rt: &HostRuntime, pattern: &[u8]) -> io::Result<()> {
+    fn load(&mut self, pattern: &[u8]) -> io::Result<()> {
         match self.screen.load(pattern) {
             Ok(last) => {
                 self.last = Some(last);
-                show_units(rt, pattern)?;
-                println!(rt; "  n = {last}")?;
-                show_table(rt, pattern)
+                print!(self.rt; "{}", Units(pattern))?;
+                println!(self.rt; "  n = {last}")?;
+                self.show_table(pattern)
             }
             Err(fault) => {
-                let number = fault.stop.number();
-                let place = fault.place;
-                let stop = fault.stop;
-                println!(rt; "  stop {number} at {place}: {stop}")?;
-                show_kept(rt, self.last)
+                let kept = Kept(self.last);
+                println!(self.rt; "  {fault}\n  {kept}")
             }
         }
     }
 
-    /// Begins a frame.
-    fn begin(&mut self, rt: &HostRuntime, renter: u8, length: u64) -> io::Result<()> {
-        print!(rt; "  ")?;
-        match self.screen.begin(renter, length) {
-            Ok(touches) => print!(rt; "the frame will take {touches} touches")?,
-            Err(stop) => show_stop(rt, stop)?,
-        }
-        self.show_meter(rt)
-    }
-
-    /// Feeds a byte, and says whether it was accepted.
-    fn feed_byte(&mut self, rt: &HostRuntime, renter: u8, byte: u8) -> io::Result<bool> {
-        print!(rt; "  byte {byte:02X}: ")?;
-        let answer = self.screen.feed(renter, byte);
-        match answer {
-            Ok(left) => print!(rt; "bytes still to come: {left}")?,
-            Err(stop) => show_stop(rt, stop)?,
-        }
-        self.show_meter(rt)?;
-        Ok(answer.is_ok())
+    /// Prints what a call on a frame was told, and the meter's reading after it.
+    fn show_told(&self, told: Result<Answer, Stop>) -> io::Result<()> {
+        let told = Told(told);
+        println!(self.rt; "  {told}; meter {}", self.screen.meter())
     }
 
     /// Feeds the bytes of a text up to the first that is refused.
-    fn feed(&mut self, rt: &HostRuntime, renter: u8, text: &[u8]) -> io::Result<()> {
+    fn feed(&mut self, renter: u8, text: &[u8]) -> io::Result<()> {
         if text.is_empty() {
-            print!(rt; "  no byte to feed")?;
-            return self.show_meter(rt);
+            return println!(self.rt; "  no byte to feed; meter {}", self.screen.meter());
         }
-        for b in text {
-            if !self.feed_byte(rt, renter, *b)? {
+        for byte in text {
+            let told = Told(self.screen.feed(renter, *byte).map(Answer::Fed));
+            println!(self.rt; "  byte {byte:02X}: {told}; meter {}", self.screen.meter())?;
+            if told.0.is_err() {
                 break;
             }
         }
         Ok(())
     }
 
-    /// Finishes a frame.
-    fn finish(&mut self, rt: &HostRuntime, renter: u8) -> io::Result<()> {
-        print!(rt; "  ")?;
-        match self.screen.finish(renter) {
-            Ok((verdict, touches)) => {
-                show_verdict(rt, verdict)?;
-                print!(rt; ", touches made: {touches}")?;
+    /// Makes the calls that a command asks for.
+    fn run(&mut self, command: Command<'_>) -> io::Result<()> {
+        match command {
+            Command::Load(pattern) => self.load(pattern),
+            Command::Begin { renter, length } => {
+                let told = self.screen.begin(renter, length).map(Answer::Begun);
+                self.show_told(told)
             }
-            Err(stop) => show_stop(rt, stop)?,
+            Command::Feed { renter, text } => self.feed(renter, text),
+            Command::Finish { renter } => {
+                let told = self.screen.finish(renter).map(|(verdict, touches)| {
+                    Answer::Finished(verdict, touches)
+                });
+                self.show_told(told)
+            }
+            Command::Drop { renter } => {
+                let told = self.screen.drop(renter).map(Answer::Dropped);
+                self.show_told(told)
+            }
+            Command::Meter => println!(self.rt; "  meter {}", self.screen.meter()),
         }
-        self.show_meter(rt)
-    }
-
-    /// Drops a frame.
-    fn drop(&mut self, rt: &HostRuntime, renter: u8) -> io::Result<()> {
-        print!(rt; "  ")?;
-        match self.screen.drop(renter) {
-            Ok(touches) => print!(rt; "touches made: {touches}")?,
-            Err(stop) => show_stop(rt, stop)?,
-        }
-        self.show_meter(rt)
-    }
-
-    /// Reads the meter.
-    fn meter(&self, rt: &HostRuntime) -> io::Result<()> {
-        let reading = self.screen.meter();
-        println!(rt; "  meter {reading}")
     }
 
     /// Carries out a line.
-    fn run_line(&mut self, rt: &HostRuntime, line: &[u8]) -> io::Result<()> {
-        let command = Command::of_line(line);
-        show_line(rt, line, command)?;
-        match command {
-            Command::Nothing => Ok(()),
-            Command::Load(pattern) => self.load(rt, pattern),
-            Command::Begin { renter, length } => self.begin(rt, renter, length),
-            Command::Feed { renter, text } => self.feed(rt, renter, text),
-            Command::Finish { renter } => self.finish(rt, renter),
-            Command::Drop { renter } => self.drop(rt, renter),
-            Command::Meter => self.meter(rt),
-            Command::Unknown => show_known(rt),
+    fn run_line(&mut self, line: &[u8]) -> io::Result<()> {
+        match Command::of_line(line) {
+            Ok(None) => Ok(()),
+            Ok(Some(command)) => {
+                println!(self.rt; "{}", Escaped(line))?;
+                self.run(command)
+            }
+            Err(unknown) => println!(self.rt; "{unknown}"),
         }
     }
-}
-
-/// Prints a line as it was read, unless it asks for nothing.
-fn show_line(rt: &HostRuntime, line: &[u8], command: Command<'_>) -> io::Result<()> {
-    match command {
-        Command::Nothing => return Ok(()),
-        Command::Unknown => print!(rt; "unknown command: ")?,
-        _ => {}
-    }
-    show_bytes(rt, line)?;
-    println!(rt; "")
-}
-
-/// Prints the commands that there are.
-fn show_known(rt: &HostRuntime) -> io::Result<()> {
-    println!(rt;
-        "  known are: load PATTERN, begin RENTER LENGTH, feed RENTER TEXT, finish RENTER, drop RENTER, meter,"
-    )?;
-    println!(rt; "  and lines that are blank or begin with #")
 }
 
 fn main(rt: HostRuntime) -> io::Result<()> {
     let mut marks = vec![in rt.alloc(); YesNo::Nothing; CELLS]?;
     let mut board = Counting::new(marks.as_mut_slice());
     let mut console = Console {
+        rt: &rt,
         screen: Screen::new(&mut board),
         last: None,
     };
     for line in BufReader::new(rt.alloc(), rt.stdin())?.split(rt.alloc(), b'\n') {
-        console.run_line(&rt, line?.as_slice())?;
+        console.run_line(line?.as_slice())?;
     }
     Ok(())
 }

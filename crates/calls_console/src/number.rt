@@ -7,14 +7,10 @@ ghost use Rattle.calls_console.specs.Numbers.{Decimal, Digit};
 fn with_digit(value: u64, byte: u8) -> Option<u64>
     ensures { MatchOption result ((Digit byte → ⊥) ⊎ (2 ^ 64 ≤ 10 * value + (byte - 48))) (λ n. Digit byte × (n ≡ 10 * value + (byte - 48)) × (n < 2 ^ 64)) }
 {
-    if byte < b'0' || byte > b'9' {
-        return None;
+    match byte {
+        b'0'..=b'9' => value.checked_mul(10)?.checked_add(u64::from(byte - b'0')),
+        _ => None,
     }
-    let digit = u64::from(byte - b'0');
-    if value > (u64::MAX - digit) / 10 {
-        return None;
-    }
-    Some(10 * value + digit)
 }
 
 /// The value of decimal digits; none if there is no digit, another byte, or a value that does not fit 64 bits.
@@ -35,6 +31,5 @@ pub(crate) fn number(word: &[u8]) -> Option<u64>
 pub(crate) fn renter_number(word: &[u8]) -> Option<u8>
     ensures { MatchOption result ((n : ℕ) → Decimal 8 word.now n → ⊥) (λ n. Decimal 8 word.now n) }
 {
-    let n = number(word)?;
-    if n < 256 { Some(n as u8) } else { None }
+    u8::try_from(number(word)?).ok()
 }

@@ -1,71 +1,44 @@
-//! Printing bytes, units and tables.
+//! What calls on a frame are told, as it is printed.
 
-use rule::{Entry, Kind, Rule};
-use std::io;
-use syntax::{Letter, PatternUnit, Placed, Reader};
+use mark::YesNo;
+use std::fmt;
+use stops::Stop;
 
-/// Prints bytes as they are, and those that are no printable ASCII as the escapes of a pattern.
-pub(crate) fn show_bytes(rt: &HostRuntime, bytes: &[u8]) -> io::Result<()> {
-    for b in bytes {
-        let b = *b;
-        if b >= 0x20 && b < 0x7f {
-            print!(rt; "{}", char::from(b))?;
-        } else {
-            print!(rt; "\\x{b:02x}")?;
-        }
-    }
-    Ok(())
+/// The answer to a call on a frame.
+#[derive(Clone, Copy)]
+pub(crate) enum Answer {
+    /// The frame will take so many touches.
+    Begun(u64),
+    /// So many bytes are still to come.
+    Fed(u64),
+    /// The verdict, and the touches made for the frame.
+    Finished(YesNo, u64),
+    /// The touches made for the frame.
+    Dropped(u64),
 }
 
-/// Prints a unit with its place and its position.
-fn show_unit(rt: &HostRuntime, placed: Placed, position: usize) -> io::Result<()> {
-    let place = placed.place;
-    let kind = Kind::of_unit(placed.unit);
-    match placed.unit {
-        PatternUnit::Plain(Letter::Byte(b)) => println!(rt;
-            "  unit at {place}: {kind} {b:02X}, position {position}"
-        ),
-        _ => println!(rt; "  unit at {place}: {kind}, position {position}"),
-    }
-}
-
-/// Prints the units of a pattern.
-pub(crate) fn show_units(rt: &HostRuntime, pattern: &[u8]) -> io::Result<()> {
-    let mut reader = Reader::new(pattern);
-    for i in 0..pattern.len() {
-        match reader.next_unit() {
-            Ok(Some(placed)) => show_unit(rt, placed, i.saturating_add(1))?,
-            _ => break,
-        }
-    }
-    Ok(())
-}
-
-/// Prints a word with what it says.
-fn show_entry(rt: &HostRuntime, position: u16, word: u32, entry: Entry) -> io::Result<()> {
-    let kind = entry.kind;
-    print!(rt; "  {position}: {word:08X} {kind}")?;
-    if let Kind::Byte = kind {
-        let b = entry.byte;
-        print!(rt; " {b:02X}")?;
-    }
-    if let Some(first) = entry.first {
-        print!(rt; " from {first}")?;
-    }
-    if let Some(second) = entry.second {
-        print!(rt; " and {second}")?;
-    }
-    println!(rt; "")
-}
-
-/// Prints the words of a rule.
-pub(crate) fn show_rule(rt: &HostRuntime, rule: &Rule) -> io::Result<()> {
-    for position in 0..=rule.last() {
-        if let Some(word) = rule.word(position) {
-            if let Some(entry) = rule.entry(position) {
-                show_entry(rt, position, word, entry)?;
+impl fmt::Display for Answer {
+    fn fmt<W: fmt::Write>(&self, f: &mut fmt::Formatter<W>) -> fmt::Result {
+        match *self {
+            Answer::Begun(touches) => write!(f, "the frame will take {touches} touches"),
+            Answer::Fed(left) => write!(f, "bytes still to come: {left}"),
+            Answer::Finished(verdict, touches) => {
+                write!(f, "verdict {verdict}, touches made: {touches}")
             }
+            Answer::Dropped(touches) => write!(f, "touches made: {touches}"),
         }
     }
-    Ok(())
+}
+
+/// What a call on a frame is told: the answer, or the stop.
+#[derive(Clone, Copy)]
+pub(crate) struct Told(pub(crate) Result<Answer, Stop>);
+
+impl fmt::Display for Told {
+    fn fmt<W: fmt::Write>(&self, f: &mut fmt::Formatter<W>) -> fmt::Result {
+        match self.0 {
+            Ok(answer) => write!(f, "{answer}"),
+            Err(stop) => write!(f, "stop {}: {stop}", stop.number()),
+        }
+    }
 }

@@ -1,21 +1,11 @@
 -- What a line of the console asks for.
-use Rattle.std.specs.Prelude.{◌≡◌, ℕ, ◌<◌, ◌⊎◌, List, [], ◌∷◌, ◌++◌, length, codes, ◌≢◌, slice_index}
-use Rattle.console.specs.declared.command.Command.TheVariants.{Load, Nothing, Unknown}
+use Rattle.std.specs.Prelude.{◌≡◌, ℕ, ◌⊎◌, List, codes, None, Some, Ok, Err, Option, Result}
+use Rattle.console.specs.declared.command.Command.TheVariants.{Load}
 use Rattle.console.specs.declared.command.Command.{Command}
+use Rattle.console.specs.declared.command.Unknown.{Unknown}
+use Rattle.lines.specs.Lines.{Blank, Comment, Divides}
 
--- nothing but spaces
-abbrev pub Blank : List ℕ → Type 0
-Blank line = (k : ℕ) → k < length line → slice_index line k ≡ 32
-
-abbrev pub Comment : List ℕ → Type 0
-Comment line = (rest : List ℕ) × (line ≡ codes "#" ++ rest)
-
--- the word stands before the first space of the line, and rest is all that follows the space; with no space the line is the word
-pub record Divides (line word rest : List ℕ) : Type 0 where
-  pub no_space : (k : ℕ) → k < length word → slice_index word k ≢ 32
-  pub parts : ((line ≡ word) × (rest ≡ [])) ⊎ (line ≡ word ++ (32 ∷ rest))
-
-abbrev pub Means : List ℕ → Command → Type 0
-Means line Nothing = Blank line ⊎ Comment line
-Means line (Load pattern) = Divides line (codes "load") pattern.now
-Means line Unknown = (Blank line → ⊥) × (Comment line → ⊥) × ((rest : List ℕ) → Divides line (codes "load") rest → ⊥)
+abbrev pub Means : List ℕ → Result (Option Command) Unknown → Type 0
+Means line (Ok None) = Blank line ⊎ Comment line
+Means line (Ok (Some (Load pattern))) = Divides line (codes "load") pattern.now
+Means line (Err unknown) = (unknown.line.now ≡ line) × (Blank line → ⊥) × (Comment line → ⊥) × ((rest : List ℕ) → Divides line (codes "load") rest → ⊥)

@@ -1,76 +1,47 @@
 //! The lines that the console reads.
 
-ghost use Rattle.std.specs.Prelude.{◌≡◌, ℕ, ◌<◌, MatchBool};
-ghost use Rattle.console.specs.Lines.{Blank, Comment, Divides, Means};
+ghost use Rattle.console.specs.Lines.{Means};
 
-/// What a line asks for.
-#[derive(Clone, Copy)]
+use lines::{Escaped, Parts, is_blank, is_comment};
+use std::error::Error;
+use std::fmt;
+
+/// What the console can be asked for.
+#[derive(Clone, Copy, Debug, PartialEq, Eq)]
 pub enum Command<'a> {
-    /// Nothing: the line is blank or a comment.
-    Nothing,
     /// To load the pattern.
     Load(&'a [u8]),
-    /// What the console does not know.
-    Unknown,
 }
 
-/// A line taken apart at its first space: the word before it, and all that follows it.
-#[derive(Clone, Copy)]
-struct Parts<'a> {
-    word: &'a [u8],
-    rest: &'a [u8],
+/// A line that asks for what the console does not know.
+#[derive(Clone, Copy, Debug, PartialEq, Eq)]
+pub struct Unknown<'a> {
+    pub line: &'a [u8],
 }
 
-/// Whether a line has nothing but spaces.
-fn is_blank(line: &[u8]) -> bool
-    ensures { MatchBool result (Blank line.now) (Blank line.now → ⊥) }
-{
-    for b in line {
-        if *b != b' ' {
-            return false;
-        }
-    }
-    true
-}
-
-/// Whether a line begins with `#`.
-fn is_comment(line: &[u8]) -> bool
-    ensures { MatchBool result (Comment line.now) (Comment line.now → ⊥) }
-{
-    matches!(line, [b'#', ..])
-}
-
-/// Takes a line apart.
-fn divide(line: &[u8]) -> Parts<'_>
-    ensures { Divides line.now result.word.now result.rest.now }
-{
-    for (i, b) in line.iter().enumerate() {
-        if *b == b' ' {
-            return Parts {
-                word: &line[0..i],
-                rest: &line[i + 1..],
-            };
-        }
-    }
-    Parts {
-        word: line,
-        rest: &[],
+/// The line, and what is known.
+impl fmt::Display for Unknown<'_> {
+    fn fmt<W: fmt::Write>(&self, f: &mut fmt::Formatter<W>) -> fmt::Result {
+        let line = Escaped(self.line);
+        writeln!(f, "unknown command: {line}")?;
+        f.write_str("  known are: load PATTERN, and lines that are blank or begin with #")
     }
 }
+
+impl Error for Unknown<'_> {}
 
 impl<'a> Command<'a> {
-    /// What a line asks for.
-    pub fn of_line(line: &'a [u8]) -> Command<'a>
+    /// What a line asks for; nothing where it is blank or a comment.
+    pub fn of_line(line: &'a [u8]) -> Result<Option<Command<'a>>, Unknown<'a>>
         ensures { Means line.now result }
     {
         if is_blank(line) || is_comment(line) {
-            return Command::Nothing;
+            return Ok(None);
         }
-        let parts = divide(line);
-        if parts.word == b"load".as_slice() {
-            Command::Load(parts.rest)
-        } else {
-            Command::Unknown
+        let parts = Parts::of(line);
+        match parts.word {
+            b"load" => Ok(Some(Command::Load(parts.rest))),
+            _ => Err(Unknown { line }),
         }
     }
 }

@@ -2,9 +2,8 @@
 use Rattle.std.proofs.Common.{◌≡◌, ℕ, min, Bool, true, false, cond, ◌&&◌, ltb, List, ◌++◌, length, take, drop, Ok, Err, Result, sym, refl, ap, ◌∙◌, inl, inr, arith, take-append-drop, length-take, MutBor, le-ltb, lt-ltb}
 use Rattle.board.specs.Boards.{Accepted, Make, Refused, most_cells, no_allowance, no_cell}
 use Rattle.board.specs.Lent.{Lent}
-use Rattle.board.specs.Traced.{Traced}
-use Rattle.board.specs.declared.trace.Trace.{Trace}
-use Rattle.drive.specs.Drives.{Touches, after_one, state}
+use Rattle.board.specs.Traced.{Writer, Written}
+use Rattle.drive.specs.Drives.{State, Touches, after, after_one, state}
 use Rattle.drive.specs.declared.Access.TheVariants.{Read, Write}
 use Rattle.drive.specs.declared.Access.{Access}
 use Rattle.std.proofs.lemmas.List.{drop_all}
@@ -38,6 +37,10 @@ module _ {M X : Type 0} (make : Make X) (cells : List M) (meter : X) where
   touched (Write i m) cells' meter' (Ok x) t = chosen _ true _ _ (accepted_test t.1.0) ∙ sym (same_state t.1.1 t.1.2)
   touched (Write i m) cells' meter' (Err s) t = chosen _ false _ _ (refused_test t.0) ∙ sym (same_state t.1 t.2)
 
+  -- accesses made on a board with these cells and this meter
+  pub begun : {was : List M} {first : X} {s : State M X} (accesses : List (Access M)) → cells ≡ was → meter ≡ first → s ≡ after make (state (take most_cells cells) meter) accesses → s ≡ after make (state (take most_cells was) first) accesses
+  begun accesses e f done = done ∙ ap (λ s. after make s accesses) (same_state (ap (take most_cells) e) f)
+
 -- what a lent slice of marks holds when its board is gone
 pub marks_left : {M : Type 0} (was : List M) (a b : MutBor (List M)) {left cells : List M} → Lent a b → a.now ≡ was → left ≡ b.now → take most_cells b.now ≡ cells → left ≡ cells ++ drop most_cells was
 marks_left was a b {left} {cells} lent e back at =
@@ -54,9 +57,9 @@ drop_most n m l e = elim (cases_lt n (length l)) [
 ]
 
 -- what a slice of words holds when its board is gone: `used` of them are the words written
-pub words_left : {M : Type 0} (was : List ℕ) (a b : Trace M) {left written : List ℕ} {used : ℕ} → Traced a b → a.words.now ≡ was → left ≡ b.words.now → take b.used b.words.now ≡ written → used ≡ length (take b.used b.words.now) → left ≡ written ++ drop used was
+pub words_left : (was : List ℕ) (a b : Writer) {left written : List ℕ} {used : ℕ} → Written a b → a.0.now ≡ was → left ≡ b.0.now → take b.1.used b.0.now ≡ written → used ≡ length (take b.1.used b.0.now) → left ≡ written ++ drop used was
 words_left was a b {left} {written} {used} kept e back at is =
     back
-    ∙ sym (take-append-drop b.used b.words.now)
-    ∙ ap (λ l. l ++ drop b.used b.words.now) at
-    ∙ ap (λ l. written ++ l) (kept.behind ∙ ap (drop b.used) e ∙ drop_most b.used used was (is ∙ length-take b.used b.words.now ∙ ap (min b.used) (kept.as_long ∙ ap length e)))
+    ∙ sym (take-append-drop b.1.used b.0.now)
+    ∙ ap (λ l. l ++ drop b.1.used b.0.now) at
+    ∙ ap (λ l. written ++ l) (kept.behind ∙ ap (drop b.1.used) e ∙ drop_most b.1.used used was (is ∙ length-take b.1.used b.0.now ∙ ap (min b.1.used) (kept.as_long ∙ ap length e)))

@@ -11,7 +11,7 @@ use mark::Mark;
 use stops::Stop;
 
 /// An access to a cell.
-#[derive(Clone, Copy)]
+#[derive(Clone, Copy, Debug, PartialEq, Eq)]
 pub enum Access<M> {
     /// Reads the mark of a cell.
     Read(u64),
@@ -43,14 +43,23 @@ pub fn drive<B: Board>(board: &mut B, accesses: &[Access<B::M>])
     }
 }
 
+/// Makes accesses on a board, and answers its last reading.
+fn last_reading<B: Board>(board: &mut B, accesses: &[Access<B::M>]) -> u64
+    ensures kept { B.keeps.same board.old board.new }
+    ensures done { state (B.cells board.new) (B.meter board.new) ≡ after B.make (state (B.cells board.old) (B.meter board.old)) accesses.now }
+    ensures reading { result ≡ B.make.shows (length (B.cells board.new)) (B.meter board.new) }
+{
+    drive(board, accesses);
+    board.reading()
+}
+
 /// Makes accesses on a new counting board over the marks, and answers its last reading.
 pub fn drive_counting<M: Mark>(marks: &mut [M], accesses: &[Access<M>]) -> u64
     ensures marks { marks.new ≡ (counted marks.old accesses.now).cells ++ drop most_cells marks.old }
     ensures reading { result ≡ (counted marks.old accesses.now).meter }
 {
     let mut board = Counting::new(marks);
-    drive(&mut board, accesses);
-    board.reading()
+    last_reading(&mut board, accesses)
 }
 
 /// Makes accesses on a new row board over the marks, and answers its last reading.
@@ -59,8 +68,7 @@ pub fn drive_row<M: Mark>(marks: &mut [M], accesses: &[Access<M>]) -> u64
     ensures reading { result ≡ (rowed marks.old accesses.now).meter.opened }
 {
     let mut board = Row::new(marks);
-    drive(&mut board, accesses);
-    board.reading()
+    last_reading(&mut board, accesses)
 }
 
 /// Makes accesses on a new trace board over the marks and the words, and answers its last reading.
@@ -70,6 +78,5 @@ pub fn drive_trace<M: Mark>(marks: &mut [M], words: &mut [u32], accesses: &[Acce
     ensures reading { result ≡ length (traced marks.old (length words.old) accesses.now).meter.written }
 {
     let mut board = Trace::new(marks, words);
-    drive(&mut board, accesses);
-    board.reading()
+    last_reading(&mut board, accesses)
 }

@@ -3,6 +3,7 @@
 
 #![tactic(auto)]
 
+mod show;
 mod start;
 mod tail;
 mod yes_no;

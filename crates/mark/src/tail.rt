@@ -5,42 +5,33 @@ ghost use Rattle.mark.specs.Tail.{tail};
 use crate::{MOST_BYTES, Mark, Start};
 
 /// Nothing, or a start.
-#[derive(Clone, Copy)]
-pub enum Tail {
-    Nothing,
-    From(Start),
-}
+pub type Tail = Option<Start>;
 
 impl Mark for Tail {
     ghost kind = { tail };
 
     fn nothing() -> Tail {
-        Tail::Nothing
+        None
     }
 
     fn join(self, other: Tail) -> Tail {
-        match self {
-            Tail::Nothing => other,
-            Tail::From(a) => match other {
-                Tail::Nothing => self,
-                Tail::From(b) => Tail::From(a.min(b)),
-            },
+        match (self, other) {
+            (Some(a), Some(b)) => Some(a.min(b)),
+            _ => self.or(other),
         }
     }
 
     fn seed(place: u64) -> Tail {
-        if place > u64::from(MOST_BYTES) {
-            return Tail::Nothing;
+        match u16::try_from(place) {
+            Ok(place) if place <= MOST_BYTES => Some(Start { place }),
+            _ => None,
         }
-        Tail::From(Start {
-            place: place as u16,
-        })
     }
 
     fn code(self) -> u16 {
         match self {
-            Tail::Nothing => 65535,
-            Tail::From(start) => start.place,
+            None => 65535,
+            Some(start) => start.place,
         }
     }
 }

@@ -5,7 +5,7 @@ ghost use Rattle.mark.specs.YesNo.{yes_no};
 use crate::Mark;
 
 /// Nothing, or yes.
-#[derive(Clone, Copy)]
+#[derive(Clone, Copy, Debug, PartialEq, Eq)]
 pub enum YesNo {
     Nothing,
     Yes,

@@ -1,14 +1,10 @@
 -- The rule table of a pattern.
-use Rattle.std.specs.Prelude.{◌≡◌, ℕ, ◌+◌, ◌<◌, ◌≤◌, ◌⊎◌, List, length, Some, Ok, Err, Option, Result, slice_index, slice_index_or}
-use Rattle.language.specs.Faults.{Faulty}
-use Rattle.language.specs.Limits.{most_units}
+use Rattle.std.specs.Prelude.{◌≡◌, ℕ, ◌+◌, ◌<◌, ◌≤◌, List, length, Option, slice_index, slice_index_or}
 use Rattle.language.specs.Links.{LinksOf, Predecessors}
 use Rattle.language.specs.Patterns.{Accepted, Tree, alternatives, group, units}
 use Rattle.rule.specs.Words.{Says, byte_of, kind_of}
 use Rattle.rule.specs.declared.word.Kind.TheVariants.{End}
 use Rattle.rule.specs.declared.word.Kind.{Kind}
-use Rattle.stops.specs.Stops.{stop_number}
-use Rattle.syntax.specs.declared.Fault.{Fault}
 use Rattle.syntax.specs.declared.PatternUnit.TheVariants.{Close}
 use Rattle.syntax.specs.declared.PatternUnit.{PatternUnit}
 

@@ -1,7 +1,8 @@
 -- The words of the rule table.
-use Rattle.std.specs.Prelude.{◌≡◌, ℕ, ◌/◌, ◌%◌, ◌<◌, Bool, cond, List, Some, None, Option, ◌==◌, ◌≢◌, nat_lt, slice_index_or}
+use Rattle.std.specs.Prelude.{◌≡◌, ℕ, ◌/◌, ◌%◌, ◌<◌, Bool, cond, List, Some, None, Option, Result, MatchResult, ◌==◌, ◌≢◌, nat_lt, slice_index_or}
 use Rattle.rule.specs.declared.word.Kind.TheVariants as kind
 use Rattle.rule.specs.declared.word.Kind.{Kind}
+use Rattle.rule.specs.declared.word.UnknownKind.{UnknownKind}
 use Rattle.syntax.specs.declared.Letter.TheVariants.{Any, Byte}
 use Rattle.syntax.specs.declared.PatternUnit.TheVariants.{Bar, Close, Open, Plain, Repeat}
 use Rattle.syntax.specs.declared.PatternUnit.{PatternUnit}
@@ -80,6 +81,10 @@ second_of words j = second_in (word_at words j)
 
 abbrev pub takes_at : List ℕ → ℕ → ℕ → Bool
 takes_at words c j = word_takes (word_at words j) c
+
+-- the kind of this number, or the number back where it is no kind's
+abbrev pub Numbered : ℕ → Result Kind UnknownKind → Type 0
+Numbered number r = MatchResult r (λ k. kind_number k ≡ number) (λ e. (e.0 ≡ number) × ((k : Kind) → kind_number k ≢ number))
 
 -- the word's kind is no kind's number
 abbrev pub NoKind : ℕ → Type 0

@@ -68,10 +68,7 @@ fn field(predecessor: Option<u16>) -> u32
     requires { Position predecessor }
     ensures { Holds result predecessor }
 {
-    match predecessor {
-        Some(position) => u32::from(position),
-        None => ABSENT,
-    }
+    predecessor.map_or(ABSENT, u32::from)
 }
 
 /// The word of an entry.
@@ -80,7 +77,7 @@ fn word_of(entry: Entry) -> u32
     ensures { Says result entry.kind entry.byte entry.first entry.second }
 {
     let fields = field(entry.first) * 0x400 + field(entry.second);
-    entry.kind.number() * 0x1000_0000 + u32::from(entry.byte) * 0x10_0000 + fields
+    u32::from(entry.kind) * 0x1000_0000 + u32::from(entry.byte) * 0x10_0000 + fields
 }
 
 /// The two, the smaller first, an only one first.
@@ -88,10 +85,8 @@ fn in_order(a: Option<u16>, b: Option<u16>) -> (Option<u16>, Option<u16>)
     ensures { (result.0 ≡ firsts a b) × (result.1 ≡ seconds a b) }
 {
     match (a, b) {
-        (Some(i), Some(j)) if i < j => (Some(i), Some(j)),
-        (Some(i), Some(j)) => (Some(j), Some(i)),
-        (Some(i), None) => (Some(i), None),
-        (None, _) => (b, None),
+        (Some(i), Some(j)) => (Some(i.min(j)), Some(i.max(j))),
+        _ => (a.or(b), None),
     }
 }
 
@@ -112,20 +107,14 @@ fn skipped_from(sign: Sign, start: u16) -> Option<u16>
     requires { start < absent }
     ensures { (result ≡ skip_of sign start) × Position result }
 {
-    match sign {
-        Sign::Star | Sign::Opt => Some(start),
-        Sign::Plus => None,
-    }
+    matches!(sign, Sign::Star | Sign::Opt).then_some(start)
 }
 
 /// Whether a repeat sign links back to its operand.
 fn leads_back(sign: Sign) -> bool
     ensures { result ≡ loops_back sign }
 {
-    match sign {
-        Sign::Star | Sign::Plus => true,
-        Sign::Opt => false,
-    }
+    matches!(sign, Sign::Star | Sign::Plus)
 }
 
 impl Builder {
@@ -160,10 +149,7 @@ impl Builder {
         ensures { MatchResult result (λ _. self.now.count ≤ most_units) (λ f. (most_units < self.now.count) × (stop_number f.stop ≡ 1) × (f.place ≡ place)) }
     {
         if self.count > MOST_UNITS {
-            return Err(Fault {
-                stop: Stop::TooLong,
-                place,
-            });
+            return Err(Fault::at(Stop::TooLong, place));
         }
         Ok(())
     }
@@ -184,7 +170,7 @@ impl Builder {
     {
         let (first, second) = in_order(self.front, own);
         let entry = Entry {
-            kind: Kind::of_unit(unit),
+            kind: Kind::from(unit),
             byte: byte(unit),
             first,
             second,
@@ -274,34 +260,20 @@ impl Builder {
         let place = placed.place;
         match placed.unit {
             PatternUnit::Plain(letter) => self.letter(letter),
-            PatternUnit::Open => {
-                if self.depth > MOST_GROUPS {
-                    return Err(Fault {
-                        stop: Stop::TooDeep,
-                        place,
-                    });
-                }
-                self.open_group(place);
-            }
+            PatternUnit::Open if self.depth > MOST_GROUPS => return Err(Fault::at(
+                Stop::TooDeep,
+                place,
+            )),
+            PatternUnit::Open => self.open_group(place),
             PatternUnit::Bar => self.bar(),
-            PatternUnit::Close => {
-                if self.depth <= 1 {
-                    return Err(Fault {
-                        stop: Stop::NothingOpen,
-                        place,
-                    });
-                }
-                self.close_group();
-            }
+            PatternUnit::Close if self.depth <= 1 => return Err(Fault::at(
+                Stop::NothingOpen,
+                place,
+            )),
+            PatternUnit::Close => self.close_group(),
             PatternUnit::Repeat(sign) => match self.last {
-                Last::Start => return Err(Fault {
-                    stop: Stop::NoOperand,
-                    place,
-                }),
-                Last::Sign => return Err(Fault {
-                    stop: Stop::SignAfterSign,
-                    place,
-                }),
+                Last::Start => return Err(Fault::at(Stop::NoOperand, place)),
+                Last::Sign => return Err(Fault::at(Stop::SignAfterSign, place)),
                 Last::Operand => self.repeat(sign),
             },
         }
@@ -313,11 +285,7 @@ impl Builder {
         requires { (0 < self.now.depth) × (self.now.depth ≤ most_groups + 1) }
         ensures { MatchOption result (self.now.depth ≡ 1) (λ p. (1 < self.now.depth) × (p ≡ (OpenedLast self.now).place)) }
     {
-        if self.depth > 1 {
-            Some(self.groups[self.depth - 1].place)
-        } else {
-            None
-        }
+        (self.depth > 1).then_some(self.groups[self.depth - 1].place)
     }
 
     /// Adds the CLOSE and the END: the rule of a pattern whose units the builder has taken.
@@ -370,11 +338,8 @@ pub fn read(pattern: &[u8]) -> Result<Rule, Fault>
     ensures exactly { MatchResult result (λ _. NoFault pattern.now) (λ f. OnlyFault pattern.now (stop_number f.stop) f.place) }
 {
     let builder = read_units(pattern)?;
-    if let Some(place) = builder.open_place() {
-        return Err(Fault {
-            stop: Stop::LeftOpen,
-            place,
-        });
+    match builder.open_place() {
+        Some(place) => Err(Fault::at(Stop::LeftOpen, place)),
+        None => Ok(builder.finish()),
     }
-    Ok(builder.finish())
 }

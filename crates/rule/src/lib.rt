@@ -3,6 +3,7 @@
 #![tactic(auto)]
 
 mod builder;
+mod show;
 mod table;
 mod word;
 
@@ -12,7 +13,7 @@ ghost use Rattle.rule.specs.Tables.{EachPatternHasOneTable};
 pub use builder::{empty_rule, read};
 use syntax::Fault;
 pub use table::Rule;
-pub use word::{Entry, Kind};
+pub use word::{Entry, Kind, UnknownKind};
 
 /// A pattern has at most so many units.
 pub const MOST_UNITS: u16 = 1020;

@@ -44,26 +44,24 @@ impl Rule {
     pub fn entry(&self, position: u16) -> Option<Entry>
         ensures { MatchOption result (NoWord self.now position) (λ e. (position ≤ self.now.last) × Says (slice_index self.now.words position) e.kind e.byte e.first e.second) }
     {
-        Entry::of_word(self.word(position)?)
+        Entry::try_from(self.word(position)?).ok()
     }
 
     /// The positions that link to a position, the smaller first; none past the memory.
     pub fn predecessors(&self, position: u16) -> (Option<u16>, Option<u16>)
         ensures { (result.0 ≡ first_of self.now.words position) × (result.1 ≡ second_of self.now.words position) }
     {
-        match self.words.get(position as usize) {
-            Some(word) => predecessors(*word),
-            None => (None, None),
-        }
+        self.words
+            .get(position as usize)
+            .map_or((None, None), |word| predecessors(*word))
     }
 
     /// Whether the word of a position takes a byte: a BYTE its own, an ANY each.
     pub fn takes(&self, position: u16, byte: u8) -> bool
         ensures { result ≡ takes_at self.now.words byte position }
     {
-        match self.words.get(position as usize) {
-            Some(word) => takes(*word, byte),
-            None => false,
-        }
+        self.words
+            .get(position as usize)
+            .is_some_and(|word| takes(*word, byte))
     }
 }

@@ -1,65 +1,71 @@
 //! The words of the rule table: what a position is, and which positions link to it.
 
-ghost use Rattle.std.specs.Prelude.{◌≡◌, ◌<◌, MatchOption, ◌≢◌};
-ghost use Rattle.rule.specs.Words.{Holds, NoKind, Says, first_in, kind_number, kind_of, position_in, second_in, word_takes};
+ghost use Rattle.std.specs.Prelude.{◌≡◌, ◌/◌, ◌%◌, ◌<◌, MatchResult};
+ghost use Rattle.rule.specs.Words.{Holds, NoKind, Numbered, Says, first_in, kind_number, kind_of, position_in, second_in, word_takes};
 
+use std::error::Error;
 use std::fmt;
 use syntax::{Letter, PatternUnit, Sign};
 
-/// What stands at a position.
-#[derive(Clone, Copy)]
+/// What stands at a position. Each kind is known by its number, as the top four bits of a word have it.
+#[derive(Clone, Copy, Debug, PartialEq, Eq)]
 pub enum Kind {
-    Byte,
-    Any,
-    Open,
-    Bar,
-    Close,
-    Star,
-    Plus,
-    Opt,
-    End,
+    Byte = 0,
+    Any = 1,
+    Open = 2,
+    Bar = 3,
+    Close = 4,
+    Star = 5,
+    Plus = 6,
+    Opt = 7,
+    End = 15,
 }
 
-impl Kind {
-    /// The number of the kind, as the top four bits of a word have it.
-    pub fn number(self) -> u32
-        ensures { (result ≡ kind_number self) × (result < 16) }
-    {
-        match self {
-            Kind::Byte => 0,
-            Kind::Any => 1,
-            Kind::Open => 2,
-            Kind::Bar => 3,
-            Kind::Close => 4,
-            Kind::Star => 5,
-            Kind::Plus => 6,
-            Kind::Opt => 7,
-            Kind::End => 15,
-        }
-    }
+impl From<Kind> for u32 {
+    ghost from_gives = { λ kind number. (number ≡ kind_number kind) × (number < 16) };
 
-    /// The kind of a number, if it is one's.
-    pub fn of_number(number: u32) -> Option<Kind>
-        ensures { MatchOption result ((k : Kind) → kind_number k ≢ number) (λ k. kind_number k ≡ number) }
-    {
+    fn from(kind: Kind) -> u32 {
+        kind as u32
+    }
+}
+
+/// A number that is no kind's.
+#[derive(Clone, Copy, Debug, PartialEq, Eq)]
+pub struct UnknownKind(pub u32);
+
+impl fmt::Display for UnknownKind {
+    fn fmt<W: fmt::Write>(&self, f: &mut fmt::Formatter<W>) -> fmt::Result {
+        write!(f, "no kind has the number {}", self.0)
+    }
+}
+
+impl Error for UnknownKind {}
+
+impl TryFrom<u32> for Kind {
+    type Error = UnknownKind;
+
+    ghost try_from_gives = { Numbered };
+
+    fn try_from(number: u32) -> Result<Kind, UnknownKind> {
         match number {
-            0 => Some(Kind::Byte),
-            1 => Some(Kind::Any),
-            2 => Some(Kind::Open),
-            3 => Some(Kind::Bar),
-            4 => Some(Kind::Close),
-            5 => Some(Kind::Star),
-            6 => Some(Kind::Plus),
-            7 => Some(Kind::Opt),
-            15 => Some(Kind::End),
-            _ => None,
+            0 => Ok(Kind::Byte),
+            1 => Ok(Kind::Any),
+            2 => Ok(Kind::Open),
+            3 => Ok(Kind::Bar),
+            4 => Ok(Kind::Close),
+            5 => Ok(Kind::Star),
+            6 => Ok(Kind::Plus),
+            7 => Ok(Kind::Opt),
+            15 => Ok(Kind::End),
+            _ => Err(UnknownKind(number)),
         }
     }
+}
 
-    /// The kind of a unit.
-    pub fn of_unit(unit: PatternUnit) -> Kind
-        ensures { result ≡ kind_of unit }
-    {
+impl From<PatternUnit> for Kind {
+    ghost from_gives = { λ unit kind. kind ≡ kind_of unit };
+
+    fn from(unit: PatternUnit) -> Kind {
         match unit {
             PatternUnit::Plain(Letter::Byte(_)) => Kind::Byte,
             PatternUnit::Plain(Letter::Any) => Kind::Any,
@@ -76,7 +82,7 @@ impl Kind {
 /// The kind in letters.
 impl fmt::Display for Kind {
     fn fmt<W: fmt::Write>(&self, f: &mut fmt::Formatter<W>) -> fmt::Result {
-        let letters = match self {
+        f.write_str(match self {
             Kind::Byte => "BYTE",
             Kind::Any => "ANY",
             Kind::Open => "OPEN",
@@ -86,13 +92,12 @@ impl fmt::Display for Kind {
             Kind::Plus => "PLUS",
             Kind::Opt => "OPT",
             Kind::End => "END",
-        };
-        f.write_str(letters)
+        })
     }
 }
 
 /// A word taken apart: the position's kind, the byte of a BYTE, and the positions that link to it, the smaller first.
-#[derive(Clone, Copy)]
+#[derive(Clone, Copy, Debug, PartialEq, Eq)]
 pub struct Entry {
     pub kind: Kind,
     pub byte: u8,
@@ -103,16 +108,26 @@ pub struct Entry {
 /// What stands in a field for a predecessor that is absent.
 pub(crate) const ABSENT: u32 = 1023;
 
+/// The kind in a word.
+fn kind_in(word: u32) -> Result<Kind, UnknownKind>
+    ensures { Numbered (word / 0x1000_0000) result }
+{
+    Kind::try_from(word / 0x1000_0000)
+}
+
+/// The byte in a word.
+fn byte_in(word: u32) -> u8
+    ensures { result ≡ (word / 0x10_0000) % 0x100 }
+{
+    ((word / 0x10_0000) % 0x100) as u8
+}
+
 /// The predecessor in ten bits.
 fn predecessor(field: u32) -> Option<u16>
     requires { field < 1024 }
     ensures { Holds field result × (result ≡ position_in field) }
 {
-    if field == ABSENT {
-        None
-    } else {
-        Some(field as u16)
-    }
+    (field != ABSENT).then_some(field as u16)
 }
 
 /// The predecessors in a word.
@@ -129,25 +144,25 @@ pub(crate) fn predecessors(word: u32) -> (Option<u16>, Option<u16>)
 pub(crate) fn takes(word: u32, byte: u8) -> bool
     ensures { result ≡ word_takes word byte }
 {
-    match word / 0x1000_0000 {
-        0 => (word / 0x10_0000) % 0x100 == u32::from(byte),
-        1 => true,
+    match kind_in(word) {
+        Ok(Kind::Byte) => byte_in(word) == byte,
+        Ok(Kind::Any) => true,
         _ => false,
     }
 }
 
-impl Entry {
-    /// The entry of a word; none where its kind is no kind's number.
-    pub fn of_word(word: u32) -> Option<Entry>
-        ensures { MatchOption result (NoKind word) (λ e. Says word e.kind e.byte e.first e.second) }
-    {
-        let kind = Kind::of_number(word / 0x1000_0000)?;
-        let byte = ((word / 0x10_0000) % 0x100) as u8;
-        Some(Entry {
-            kind,
-            byte,
-            first: predecessor((word / 0x400) % 0x400),
-            second: predecessor(word % 0x400),
+impl TryFrom<u32> for Entry {
+    type Error = UnknownKind;
+
+    ghost try_from_gives = { λ word r. MatchResult r (λ e. Says word e.kind e.byte e.first e.second) (λ e. (e.0 ≡ word / 0x1000_0000) × NoKind word) };
+
+    fn try_from(word: u32) -> Result<Entry, UnknownKind> {
+        let (first, second) = predecessors(word);
+        Ok(Entry {
+            kind: kind_in(word)?,
+            byte: byte_in(word),
+            first,
+            second,
         })
     }
 }

@@ -1,9 +1,9 @@
 -- One movement after another.
-use Rattle.std.proofs.Common.{◌≡◌, ℕ, ◌+◌, List, [], ◌∷◌, ◌++◌, length, Ok, Err, Result, sym, refl, ap, ◌∙◌, subst, arith, length-append}
+use Rattle.std.proofs.Common.{◌≡◌, ℕ, List, [], ◌∷◌, ◌++◌, length, Ok, Err, Result, sym, refl, ap, ◌∙◌, subst, arith, length-append}
 use Rattle.board.specs.Boards.{Make, Touch, moved, read}
 use Rattle.board.specs.declared.Board.{Ghosts}
 use Rattle.rule.specs.declared.table.Rule.{Rule}
-use Rattle.screen.proofs.Underway.{all_done, none_yet, on_on, on_still, read_on}
+use Rattle.screen.proofs.Underway.{all_done, none_yet, on_on, read_on}
 use Rattle.screen.specs.Movements.{Movement, ReadOf, SameBoard, cells_on, meter_on}
 use Rattle.screen.specs.Moving.{Below, Enough}
 use Rattle.screen.specs.declared.movements.Mover.{Mover}
@@ -22,14 +22,10 @@ below_right size [] b h = h
 below_right size (x ∷ a) b h = below_right size a b h.1
 
 -- what is enough for two movements is enough for the first
-pub enough_first : {X : Type 0} (make : Make X) {size : ℕ} {meter : X} (a b : List Touch) → Enough make size meter (a ++ b) → Enough make size meter a
+enough_first : {X : Type 0} (make : Make X) {size : ℕ} {meter : X} (a b : List Touch) → Enough make size meter (a ++ b) → Enough make size meter a
 enough_first make {size} a b e = let h = e.allowed in record { below = below_left size a b e.below; allowed = omega (arith, length-append a b) }
 
 module _ {B M : Type 0} (board : Ghosts B M) where
-  -- nothing is done
-  pub unmoved : (m : Mover B) → Movement board m [] (λ cells. cells) m (Ok tt)
-  unmoved m = all_done board (λ cells. cells) (none_yet board m []) refl
-
   -- one cell is read
   pub one_read : {old m : Mover B} {i k : ℕ} {v : M} → i ≡ k → ReadOf board old i m (Ok v) → Movement board old (read k ∷ []) (λ cells. cells) m (Ok tt)
   one_read {old} {k = k} e r = all_done board (λ cells. cells) (read_on board e (none_yet board old (read k ∷ [])) r) r.done.2

@@ -1,5 +1,5 @@
 -- Cells written one after another.
-use Rattle.std.proofs.Common.{◌≡◌, ℕ, zero, suc, ◌+◌, ◌<◌, ◌≤◌, List, Ok, Err, length, set, sym, refl, ap, ◌∙◌, subst, arith}
+use Rattle.std.proofs.Common.{◌≡◌, ℕ, zero, suc, ◌+◌, ◌≤◌, Ok, Err, set, sym, refl, ap, ◌∙◌, subst, arith}
 use Rattle.board.specs.declared.Board.{Ghosts}
 use Rattle.method.specs.Cells.{filled}
 use Rattle.screen.proofs.Lengths.{length_writes}

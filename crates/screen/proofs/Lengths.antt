@@ -7,7 +7,7 @@ pub length_writes : (m j : ℕ) → length (writes m j) ≡ m
 length_writes zero j = refl
 length_writes (suc m) j = ap suc (length_writes m (suc j))
 
-pub length_shifts : (j : ℕ) → length (shifts j) ≡ 2 * j
+length_shifts : (j : ℕ) → length (shifts j) ≡ 2 * j
 length_shifts zero = refl
 length_shifts (suc j) = let h = length_shifts j in omega arith
 
@@ -19,7 +19,7 @@ module _ (first second : ℕ → Option ℕ) where
   length_scans zero j = refl
   length_scans (suc m) j = let h = length_scans m (suc j) in omega arith
 
-  pub length_settling : (n : ℕ) → length (settling first second n) ≡ 8 * n + 8
+  length_settling : (n : ℕ) → length (settling first second n) ≡ 8 * n + 8
   length_settling n = let h = length_scans (suc n) 0 in let a = length-append (scanning first second n) (scanning first second n) in omega arith
 
   pub length_beginning : (n : ℕ) → length (beginning first second n) ≡ 9 * n + 9
@@ -36,7 +36,7 @@ module _ (first second : ℕ → Option ℕ) where
       let a = length-append (stepping n) (settling first second n) in
       omega arith
 
-  pub length_feedings : (n m : ℕ) → length (feedings first second n m) ≡ 10 * (n * m) + 9 * m
+  length_feedings : (n m : ℕ) → length (feedings first second n m) ≡ 10 * (n * m) + 9 * m
   length_feedings n zero = let z = mul-zero n in omega arith
   length_feedings n (suc m) =
       let h = length_feedings n m in

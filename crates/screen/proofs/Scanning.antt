@@ -1,5 +1,5 @@
 -- Cells joined with their predecessors one after another.
-use Rattle.std.proofs.Common.{◌≡◌, ℕ, zero, suc, ◌+◌, ◌*◌, ◌<◌, ◌≤◌, List, [], ◌∷◌, length, get_or, set, Ok, Option, sym, refl, ap, ◌∙◌, subst, ap₂, arith}
+use Rattle.std.proofs.Common.{◌≡◌, ℕ, zero, suc, ◌+◌, ◌*◌, ◌≤◌, List, ◌∷◌, get_or, set, Ok, sym, refl, ap, ◌∙◌, subst, ap₂, arith}
 use Rattle.board.specs.Boards.{Touch, read, write}
 use Rattle.board.specs.declared.Board.{Ghosts}
 use Rattle.mark.specs.Marks.{Kind}

@@ -1,5 +1,5 @@
 -- Scans made one after another.
-use Rattle.std.proofs.Common.{◌≡◌, ℕ, zero, suc, ◌+◌, ◌*◌, ◌<◌, ◌≤◌, List, ◌++◌, length, Ok, Err, Result, sym, refl, ◌∙◌, subst, arith}
+use Rattle.std.proofs.Common.{◌≡◌, ℕ, zero, suc, ◌+◌, ◌*◌, ◌<◌, ◌≤◌, List, length, Ok, Err, Result, refl, ◌∙◌, subst, arith}
 use Rattle.board.specs.Boards.{Touch}
 use Rattle.board.specs.declared.Board.{Ghosts}
 use Rattle.mark.specs.Marks.{Kind}
@@ -7,7 +7,7 @@ use Rattle.method.proofs.Others.{leave_others}
 use Rattle.method.specs.Cells.{scanned_times}
 use Rattle.rule.specs.Words.{first_of, second_of}
 use Rattle.rule.specs.declared.table.Rule.{Rule}
-use Rattle.screen.proofs.Chained.{by_rule, chained, cut_first, unmoved}
+use Rattle.screen.proofs.Chained.{by_rule, chained, cut_first}
 use Rattle.screen.proofs.Lengths.{length_scans}
 use Rattle.screen.specs.ByRule.{scanned_by, scanning_of, settled_by, settling_of}
 use Rattle.screen.specs.Movements.{Movement, cells_on}
@@ -33,9 +33,6 @@ module _ {B M : Type 0} (board : Ghosts B M) (kind : Kind M) (old : Mover B) whe
   times_long zero cells = refl
   times_long (suc i) cells = ((leave_others M).scanning kind.join kind.nothing (first_of rule.words) (second_of rule.words) rule.last (times i cells)).long ∙ times_long i cells
 
-  pub settle_none : Settling 0 old
-  settle_none = unmoved board old
-
   module _ (i : ℕ) {m : Mover B} (f : Settling i m) where
     pub settle_count : i < 2 → m.touches ≤ old.touches + 4 * rule.last + 4
     settle_count short = at i short f.counted
@@ -45,7 +42,7 @@ module _ {B M : Type 0} (board : Ghosts B M) (kind : Kind M) (old : Mover B) whe
         at (suc zero) h e = let l = length_scans (first_of rule.words) (second_of rule.words) (suc rule.last) 0 in omega arith
         at (suc (suc k)) h e = let z : ⊥ = omega arith in absurd z
 
-    pub settle_on : {new : Mover B} (r : Result (Unit {0}) Stop) → Movement board m (scanning_of m.rule.now) (scanned_by kind m.rule.now) new r → Movement board old (scans_of (suc i)) (times (suc i)) new r
+    settle_on : {new : Mover B} (r : Result (Unit {0}) Stop) → Movement board m (scanning_of m.rule.now) (scanned_by kind m.rule.now) new r → Movement board old (scans_of (suc i)) (times (suc i)) new r
     settle_on r n = chained board (scans_of i) (scanning_of rule) (times i) (scanned_by kind rule) (times_long i (cells_on board old)) f r (by_rule board scanning_of (scanned_by kind) f.on n)
 
     pub settle_more : {new : Mover B} → Movement board m (scanning_of m.rule.now) (scanned_by kind m.rule.now) new (Ok tt) → Settling (i + 1) new
@@ -58,6 +55,3 @@ module _ {B M : Type 0} (board : Ghosts B M) (kind : Kind M) (old : Mover B) whe
         at zero h x = cut_first board (scans_of 1) (scanning_of rule) (times 1) (settled_by kind rule) x
         at (suc zero) h x = record { on = x.on; done = tt; counted = tt; enough = x.enough }
         at (suc (suc k)) h x = let z : ⊥ = omega arith in absurd z
-
-    pub settle_all : i ≡ 2 → Movement board old (settling_of rule) (settled_by kind rule) m (Ok tt)
-    settle_all e = subst (λ z. Settling z m) e f

@@ -1,5 +1,5 @@
 -- Cells carried over a byte, from the last one down.
-use Rattle.std.proofs.Common.{◌≡◌, ℕ, suc, ◌+◌, ◌*◌, ◌≤◌, List, [], ◌∷◌, length, get_or, set, Ok, Err, Result, sym, refl, ap, ◌∙◌, subst, arith}
+use Rattle.std.proofs.Common.{◌≡◌, ℕ, suc, ◌+◌, ◌*◌, ◌≤◌, List, [], ◌∷◌, get_or, set, Ok, Err, Result, sym, refl, ap, ◌∙◌, subst, arith}
 use Rattle.board.specs.Boards.{Touch, read, write}
 use Rattle.board.specs.declared.Board.{Ghosts}
 use Rattle.mark.specs.Marks.{Kind}
@@ -7,7 +7,7 @@ use Rattle.method.specs.Cells.{across, shift}
 use Rattle.rule.specs.Words.{takes_at}
 use Rattle.rule.specs.declared.table.Rule.{Rule}
 use Rattle.screen.proofs.Lengths.{length_stepping}
-use Rattle.screen.proofs.Underway.{Underway, all_done, none_yet, read_on, write_on, write_refused}
+use Rattle.screen.proofs.Underway.{Underway, all_done, read_on, write_on, write_refused}
 use Rattle.screen.specs.ByRule.{stepped_by, stepping_of}
 use Rattle.screen.specs.Movements.{Movement, ReadOf, WriteOf, cells_on}
 use Rattle.screen.specs.Schedules.{stepping}
@@ -29,9 +29,6 @@ module _ {B M : Type 0} (board : Ghosts B M) (kind : Kind M) (rule : Rule) (byte
   pub record Stepping (j : ℕ) (m : Mover B) : Type 0 where
     pub going : Going (stepping j) m
     pub shifts_on : shifted j (cells_on board m) ≡ shifted rule.last (cells_on board old)
-
-  pub step_none : (j : ℕ) → j ≡ rule.last → Stepping j old
-  step_none j e = subst (λ z. Stepping z old) (sym e) (record { going = none_yet board old (stepping_of rule); shifts_on = refl })
 
   pub step_count : {j : ℕ} {m : Mover B} → Stepping j m → m.touches ≤ old.touches + 2 * rule.last + 1
   step_count {j} f = let c = f.going.counted in omega (arith, length_stepping rule.last, length_stepping j)
@@ -61,7 +58,7 @@ module _ {B M : Type 0} (board : Ghosts B M) (kind : Kind M) (rule : Rule) (byte
     at_zero : Stepping 0 m
     at_zero = subst (λ z. Stepping z m) e f
 
-    pub last_write : Going (write 0 ∷ []) m
+    last_write : Going (write 0 ∷ []) m
     last_write = at_zero.going
 
     -- seed(bytes fed) is put into cell 0, or the write is refused

@@ -1,5 +1,5 @@
 -- A schedule under way on the mover's board: what is still to come of it leads where all of it leads from the start.
-use Rattle.std.proofs.Common.{◌≡◌, ℕ, ◌+◌, ◌≤◌, List, [], ◌∷◌, length, Ok, Err, sym, refl, ap, ◌∙◌, subst, arith, length-set}
+use Rattle.std.proofs.Common.{◌≡◌, ℕ, ◌+◌, ◌≤◌, List, [], ◌∷◌, length, Ok, Err, sym, refl, ap, ◌∙◌, arith, length-set}
 use Rattle.board.specs.Boards.{Refused, Touch, cell_of, moved, no_allowance, no_cell, read, write}
 use Rattle.board.specs.declared.Board.{Ghosts}
 use Rattle.screen.specs.Movements.{Movement, ReadOf, SameBoard, WriteOf, cells_on, meter_on}
@@ -8,7 +8,7 @@ use Rattle.screen.specs.declared.movements.Mover.{Mover}
 use Rattle.stops.specs.declared.Stop.{Stop}
 
 module _ {B M : Type 0} (board : Ghosts B M) where
-  pub on_still : (m : Mover B) → SameBoard board m m
+  on_still : (m : Mover B) → SameBoard board m m
   on_still m = record { same = refl; ruled = refl; kept = board.keeps.still _ }
 
   pub on_on : {a b c : Mover B} → SameBoard board a b → SameBoard board b c → SameBoard board a c

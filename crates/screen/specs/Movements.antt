@@ -1,11 +1,19 @@
 -- What the mover does on its board.
 use Rattle.std.specs.Prelude.{◌≡◌, ℕ, ◌+◌, true, List, length, is_ok, OnOk, Result}
+use Rattle.std.specs.Borrow.{MutBor}
 use Rattle.board.specs.Boards.{Reads, Touch, Writes}
 use Rattle.board.specs.declared.Board.{Ghosts}
 use Rattle.rule.specs.declared.table.Rule.{Rule}
 use Rattle.screen.specs.Moving.{Enough, Moves}
 use Rattle.screen.specs.declared.movements.Mover.{Mover}
 use Rattle.stops.specs.declared.Stop.{Stop}
+
+-- a mover over the lent board b that goes by this rule and has made no touch
+pub record Starts {B : Type 0} (b : MutBor B) (rule : Rule) (m : Mover B) : Type 0 where
+  pub same : m.board.ghost_name ≡ b.ghost_name
+  pub lent : m.board.now ≡ b.now
+  pub ruled : m.rule.now ≡ rule
+  pub unmoved : m.touches ≡ 0
 
 module _ {B M : Type 0} (board : Ghosts B M) where
   abbrev pub cells_on : Mover B → List M
@@ -14,7 +22,7 @@ module _ {B M : Type 0} (board : Ghosts B M) where
   abbrev pub meter_on : Mover B → board.Gauge
   meter_on m = board.meter m.board.now
 
-  -- it has the same rule and is over the same board, which keeps what it keeps
+  -- the mover is over the same board, which keeps what its make keeps, and goes by the same rule
   pub record SameBoard (old new : Mover B) : Type 0 where
     pub same : new.board.ghost_name ≡ old.board.ghost_name
     pub ruled : new.rule ≡ old.rule

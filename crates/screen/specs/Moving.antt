@@ -1,4 +1,4 @@
--- A movement under way on a board.
+-- What a schedule asks of a board, and what is made of a call on it.
 use Rattle.std.specs.Prelude.{◌≡◌, ℕ, ◌+◌, ◌<◌, ◌≤◌, List, [], ◌∷◌, length, Ok, Err, Result, slice_index_or}
 use Rattle.board.specs.Boards.{Make, Touch, cell_of, moved}
 use Rattle.board.specs.declared.Board.{Ghosts}

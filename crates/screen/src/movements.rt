@@ -1,10 +1,11 @@
-//! The four movements of a frame, for every board and every kind of mark. A board may cut a movement short and leave it half
-//! done, so nobody but the screen makes one, and only where the board has enough for all of it.
+//! The four movements of a frame, and the calls that make them, for every board and every kind of mark. A board may cut a movement
+//! short and leave it half done, so nobody but a call makes one, and only where the board has enough for all of it.
 
 ghost use Rattle.std.specs.Prelude.{◌≡◌, ◌^◌, ◌<◌, if◌then◌else◌};
 ghost use Rattle.method.specs.Cells.{first_mark, source};
-ghost use Rattle.screen.specs.ByRule.{placed_by, placed_with, placing_of, scanned_by, scanning_of, settled_by, settling_of, stepped_by, stepping_of, wiped_by, wiping_of};
-ghost use Rattle.screen.specs.Movements.{ReadOf, RuledMovement, WriteOf};
+ghost use Rattle.screen.specs.ByRule.{beginning_of, begun_by, fed_by, feeding_of, finishing_of, placed_by, placed_with, placing_of, scanned_by, scanning_of, settled_by, settling_of, stepped_by, stepping_of, wiped_by, wiping_of};
+ghost use Rattle.screen.specs.Moving.{Admits, Call, ReadingCall};
+ghost use Rattle.screen.specs.Movements.{ReadOf, RuledMovement, Starts, WriteOf};
 
 use board::Board;
 use mark::Mark;
@@ -44,15 +45,46 @@ const SCANS: u64 = 2;
 
 /// What moves a frame's marks: a board, the rule that they move by, and the touches made so far.
 #[derive(Drop)]
-pub(crate) struct Mover<'b, B> {
-    pub(crate) board: &'b mut B,
-    pub(crate) rule: &'b Rule,
-    pub(crate) touches: u64,
+struct Mover<'b, B> {
+    board: &'b mut B,
+    rule: &'b Rule,
+    touches: u64,
 }
 
 impl<'b, B: Board> Mover<'b, B> {
+    /// A mover on the board that it is lent, which has made no touch.
+    fn new(board: &'b mut B, rule: &'b Rule) -> Mover<'b, B>
+        ensures { Starts board.entry rule.now result }
+    {
+        Mover {
+            board,
+            rule,
+            touches: 0,
+        }
+    }
+
+    /// The last cell of a frame.
+    fn last(&self) -> u64
+        ensures { result ≡ self.now.rule.now.last }
+    {
+        u64::from(self.rule.last())
+    }
+
+    /// Whether the board has a cell for each position of the rule, and allows so many touches: else stop 18 or 19.
+    fn admit(&self, touches: u64) -> Result<(), Stop>
+        ensures { Admits B.Board self.now.board.now self.now.rule.now touches result }
+    {
+        if self.last() >= self.board.size() {
+            return Err(Stop::NoCell);
+        }
+        if self.board.allowance() < touches {
+            return Err(Stop::NoAllowance);
+        }
+        Ok(())
+    }
+
     /// Reads a cell, and counts the touch.
-    pub(crate) fn read(&mut self, cell: u64) -> Result<B::M, Stop>
+    fn read(&mut self, cell: u64) -> Result<B::M, Stop>
         requires { self.old.touches < 2 ^ 32 }
         ensures { ReadOf B.Board self.old cell self.new result }
     {
@@ -84,14 +116,14 @@ impl<'b, B: Board> Mover<'b, B> {
         requires { self.old.touches < 2 ^ 16 }
         ensures { RuledMovement B.Board self.old placing_of (placed_with B.M.Mark.kind first) self.new result }
     {
-        for cell in 0..=u64::from(self.rule.last()) {
+        for cell in 0..=self.last() {
             self.write(cell, first_mark(first, cell))?;
         }
         Ok(())
     }
 
     /// Places the first marks of a frame: seed(0) in cell 0, nothing in the others.
-    pub(crate) fn place(&mut self) -> Result<(), Stop>
+    fn place(&mut self) -> Result<(), Stop>
         requires { self.old.touches < 2 ^ 16 }
         ensures { RuledMovement B.Board self.old placing_of (placed_by B.M.Mark.kind) self.new result }
     {
@@ -99,7 +131,7 @@ impl<'b, B: Board> Mover<'b, B> {
     }
 
     /// Wipes a frame's cells: writes nothing to each.
-    pub(crate) fn wipe(&mut self) -> Result<(), Stop>
+    fn wipe(&mut self) -> Result<(), Stop>
         requires { self.old.touches < 2 ^ 16 }
         ensures { RuledMovement B.Board self.old wiping_of (wiped_by B.M.Mark.kind) self.new result }
     {
@@ -123,7 +155,7 @@ impl<'b, B: Board> Mover<'b, B> {
     }
 
     /// Scans the cells twice, one scan after the other.
-    pub(crate) fn settle(&mut self) -> Result<(), Stop>
+    fn settle(&mut self) -> Result<(), Stop>
         requires { self.old.touches < 2 ^ 12 }
         ensures { RuledMovement B.Board self.old settling_of (settled_by B.M.Mark.kind) self.new result }
     {
@@ -134,7 +166,7 @@ impl<'b, B: Board> Mover<'b, B> {
     }
 
     /// Carries the marks over a byte, from the last cell down to cell 1, and puts seed(bytes fed so far) into cell 0.
-    pub(crate) fn step(&mut self, byte: u8, fed: u64) -> Result<(), Stop>
+    fn step(&mut self, byte: u8, fed: u64) -> Result<(), Stop>
         requires { self.old.touches < 2 ^ 16 }
         ensures { RuledMovement B.Board self.old stepping_of (stepped_by B.M.Mark.kind byte fed) self.new result }
     {
@@ -145,4 +177,47 @@ impl<'b, B: Board> Mover<'b, B> {
         }
         self.write(0, fresh(fed))
     }
+}
+
+/// Places the first marks of a frame and scans twice; answers the touches made.
+pub fn begin_cells<B: Board>(board: &mut B, rule: &Rule) -> Result<u64, Stop>
+    ensures { Call B.Board board.old rule.now beginning_of (begun_by B.M.Mark.kind) board.new result }
+{
+    let mut mover = Mover::new(board, rule);
+    mover.admit(9 * mover.last() + 9)?;
+    mover.place()?;
+    mover.settle()?;
+    Ok(mover.touches)
+}
+
+/// Carries the marks over a byte, the frame's `fed`-th, and scans twice; answers the touches made.
+pub fn feed_cells<B: Board>(board: &mut B, rule: &Rule, byte: u8, fed: u64) -> Result<u64, Stop>
+    ensures { Call B.Board board.old rule.now feeding_of (fed_by B.M.Mark.kind byte fed) board.new result }
+{
+    let mut mover = Mover::new(board, rule);
+    mover.admit(10 * mover.last() + 9)?;
+    mover.step(byte, fed)?;
+    mover.settle()?;
+    Ok(mover.touches)
+}
+
+/// Wipes a frame's cells; answers the touches made.
+pub fn wipe_cells<B: Board>(board: &mut B, rule: &Rule) -> Result<u64, Stop>
+    ensures { Call B.Board board.old rule.now wiping_of (wiped_by B.M.Mark.kind) board.new result }
+{
+    let mut mover = Mover::new(board, rule);
+    mover.admit(mover.last() + 1)?;
+    mover.wipe()?;
+    Ok(mover.touches)
+}
+
+/// Reads the mark at the last position, and wipes a frame's cells; answers the mark and the touches made.
+pub fn finish_cells<B: Board>(board: &mut B, rule: &Rule) -> Result<(B::M, u64), Stop>
+    ensures { ReadingCall B.Board board.old rule.now finishing_of (wiped_by B.M.Mark.kind) board.new result }
+{
+    let mut mover = Mover::new(board, rule);
+    mover.admit(mover.last() + 2)?;
+    let mark = mover.read(mover.last())?;
+    mover.wipe()?;
+    Ok((mark, mover.touches))
 }

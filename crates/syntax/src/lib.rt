@@ -2,6 +2,8 @@
 
 #![tactic(auto)]
 
+mod show;
+
 ghost use Rattle.std.specs.Prelude.{◌≡◌, ℕ, ◌+◌, ◌*◌, ◌<◌, ◌≤◌, ◌⊎◌, List, [], ◌∷◌, length, MatchBool, MatchOption};
 ghost use Rattle.syntax.specs.Spelling.{Among, Begins, Digit, Escapes, Special, Spells, Stuck, bare_specials};
 ghost use Rattle.syntax.specs.Reading.{Next};
@@ -9,14 +11,14 @@ ghost use Rattle.syntax.specs.Reading.{Next};
 use stops::Stop;
 
 /// What takes one byte of a frame: a byte, or the period.
-#[derive(Clone, Copy)]
+#[derive(Clone, Copy, Debug, PartialEq, Eq)]
 pub enum Letter {
     Byte(u8),
     Any,
 }
 
 /// A repeat sign: `*`, `+` or `?`.
-#[derive(Clone, Copy)]
+#[derive(Clone, Copy, Debug, PartialEq, Eq)]
 pub enum Sign {
     Star,
     Plus,
@@ -24,7 +26,7 @@ pub enum Sign {
 }
 
 /// A unit of a pattern: a letter, one of `(`, `|` and `)`, or a repeat sign.
-#[derive(Clone, Copy)]
+#[derive(Clone, Copy, Debug, PartialEq, Eq)]
 pub enum PatternUnit {
     Plain(Letter),
     Open,
@@ -34,58 +36,46 @@ pub enum PatternUnit {
 }
 
 /// A unit and the place of its first byte in the pattern.
-#[derive(Clone, Copy)]
+#[derive(Clone, Copy, Debug, PartialEq, Eq)]
 pub struct Placed {
     pub unit: PatternUnit,
     pub place: usize,
 }
 
 /// A stop, and the place in the pattern that it names.
-#[derive(Clone, Copy)]
+#[derive(Clone, Copy, Debug, PartialEq, Eq)]
 pub struct Fault {
     pub stop: Stop,
     pub place: usize,
 }
 
+impl Fault {
+    /// A stop that names a place.
+    pub fn at(stop: Stop, place: usize) -> Fault
+        ensures { (result.stop ≡ stop) × (result.place ≡ place) }
+    {
+        Fault { stop, place }
+    }
+}
+
 fn is_special(b: u8) -> bool
     ensures { MatchBool result (Special b) (Special b → ⊥) }
 {
-    matches!(
-        b,
-        b'(' | b')'
-            | b'|'
-            | b'*'
-            | b'+'
-            | b'?'
-            | b'.'
-            | b'\\'
-            | b'['
-            | b']'
-            | b'{'
-            | b'}'
-            | b'^'
-            | b'$'
-    )
+    b"()|*+?.\\[]{}^$".contains(&b)
 }
 
-fn digit(b: u8) -> Option<u8>
+/// The value of a hexadecimal digit.
+fn digit(b: u8) -> Option<u32>
     ensures { MatchOption result ((v : ℕ) → Digit b v → ⊥) (λ v. Digit b v × (v < 16)) }
 {
-    match b {
-        b'0'..=b'9' => Some(b - b'0'),
-        b'a'..=b'f' => Some(b - b'a' + 10),
-        b'A'..=b'F' => Some(b - b'A' + 10),
-        _ => None,
-    }
+    char::from(b).to_digit(16)
 }
 
 /// The value of two hexadecimal digits.
 fn two_digits(high: u8, low: u8) -> Option<u8>
     ensures { MatchOption result ((v w : ℕ) → Digit high v → Digit low w → ⊥) (λ b. ((v : ℕ) × (w : ℕ) × Digit high v × Digit low w × (b ≡ 16 * v + w))) }
 {
-    let sixteens = digit(high)?;
-    let ones = digit(low)?;
-    Some(16 * sixteens + ones)
+    Some((16 * digit(high)? + digit(low)?) as u8)
 }
 
 /// The unit that a byte other than a backslash is by itself.
@@ -110,10 +100,10 @@ fn escape(bytes: &[u8]) -> Option<(PatternUnit, &[u8])>
     ensures { MatchOption result ((rest : List ℕ) → bytes.now ≡ 92 ∷ rest → Escapes rest → ⊥) (λ x. Begins bytes.now x.0 x.1.now) }
 {
     match bytes {
-        [b'\\', b'x', high, low, rest @ ..] => match two_digits(*high, *low) {
-            Some(b) => Some((PatternUnit::Plain(Letter::Byte(b)), rest)),
-            None => None,
-        },
+        [b'\\', b'x', high, low, rest @ ..] => {
+            let b = two_digits(*high, *low)?;
+            Some((PatternUnit::Plain(Letter::Byte(b)), rest))
+        }
         [b'\\', b, rest @ ..] if is_special(*b) => Some((
             PatternUnit::Plain(Letter::Byte(*b)),
             rest,
@@ -129,10 +119,7 @@ fn first_unit(bytes: &[u8]) -> Option<(PatternUnit, &[u8])>
 {
     match bytes {
         [b'\\', ..] => escape(bytes),
-        [b, rest @ ..] => match lone(*b) {
-            Some(unit) => Some((unit, rest)),
-            None => None,
-        },
+        [b, rest @ ..] => Some((lone(*b)?, rest)),
         [] => None,
     }
 }
@@ -156,11 +143,7 @@ impl<'a> Reader<'a> {
     pub fn next_place(&self) -> Option<usize>
         ensures { MatchOption result (length self.now.pattern.now ≤ self.now.place) (λ p. (p ≡ self.now.place) × (p < length self.now.pattern.now)) }
     {
-        if self.place < self.pattern.len() {
-            Some(self.place)
-        } else {
-            None
-        }
+        (self.place < self.pattern.len()).then_some(self.place)
     }
 
     /// The next unit with its place, and nothing at the end; stop 2 where the bytes begin no unit.
@@ -173,15 +156,10 @@ impl<'a> Reader<'a> {
         if place >= pattern.len() {
             return Ok(None);
         }
-        match first_unit(&pattern[place..]) {
-            Some((unit, rest)) => {
-                self.place = pattern.len() - rest.len();
-                Ok(Some(Placed { unit, place }))
-            }
-            None => Err(Fault {
-                stop: Stop::NoUnit,
-                place,
-            }),
-        }
+        let Some((unit, rest)) = first_unit(&pattern[place..]) else {
+            return Err(Fault::at(Stop::NoUnit, place));
+        };
+        self.place = pattern.len() - rest.len();
+        Ok(Some(Placed { unit, place }))
     }
 }

@@ -1,16 +1,14 @@
 -- What the last cell holds, and what the verdicts of the two kinds say.
-use Rattle.std.proofs.Common.{◌≡◌, ℕ, zero, suc, ◌≤◌, Bool, true, false, cond, ltb, ◌⊎◌, List, length, drop, sym, refl, ap, ◌∙◌, subst, inl, inr, arith}
+use Rattle.std.proofs.Common.{◌≡◌, ℕ, zero, suc, ◌≤◌, Bool, true, false, cond, ltb, ◌⊎◌, List, length, drop, Some, None, sym, refl, ap, ◌∙◌, subst, inl, inr, arith}
 use Rattle.language.proofs.Option.{clash}
 use Rattle.language.specs.Links.{last_position}
 use Rattle.language.specs.Patterns.{Tree, alternatives}
 use Rattle.language.specs.Words.{LetterTakes, Words}
 use Rattle.mark.specs.Joins.{Contained}
 use Rattle.mark.specs.Limits.{most_bytes}
-use Rattle.mark.specs.Tail.{earlier, earlier_laws, seed_is, smaller, smaller_place, tail, tail_seed}
+use Rattle.mark.specs.Tail.{Tail, earlier, earlier_laws, seed_is, smaller, smaller_place, tail, tail_seed}
 use Rattle.mark.specs.YesNo.{either, either_laws, yes_no, yes_seed}
 use Rattle.mark.specs.declared.start.Start.{Start}
-use Rattle.mark.specs.declared.tail.Tail.{Tail}
-use Rattle.mark.specs.declared.tail.Tail.TheVariants.{From, Nothing}
 use Rattle.mark.specs.declared.yes_no.YesNo.{YesNo}
 use Rattle.theory.proofs.Joins.{chosen, join_of_via}
 use Rattle.theory.proofs.WaysSpell.{ways_spell}
@@ -63,13 +61,13 @@ pub yes_when_all_belongs : YesExactlyWhenAllBelongs
 yes_when_all_belongs t w mark v = says_yes t w mark v
 
 -- Tail.
-start_is_not_nothing : {A : Type 0} {m : Tail} {s : Start} → m ≡ From s → m ≡ Nothing → A
+start_is_not_nothing : {A : Type 0} {m : Tail} {s : Start} → m ≡ Some s → m ≡ None → A
 start_is_not_nothing e f = clash (cc)
 
-same_from : {m : Tail} {s r : Start} → m ≡ From s → m ≡ From r → s.place ≡ r.place
+same_from : {m : Tail} {s r : Start} → m ≡ Some s → m ≡ Some r → s.place ≡ r.place
 same_from e f = let g : _ ≡ _ = sym e ∙ f in of_from g
   where
-    of_from : {s r : Start} → From s ≡ From r → s.place ≡ r.place
+    of_from : {s r : Start} → Some s ≡ Some r → s.place ≡ r.place
     of_from {s} {r} g = let h : s ≡ r = cc in ap (λ z. z.place) h
 
 smaller_picks : (a b : Start) (v : Bool) → (cond v b a ≡ a) ⊎ (cond v b a ≡ b)
@@ -77,36 +75,36 @@ smaller_picks a b true = inr refl
 smaller_picks a b false = inl refl
 
 earlier_picks : (x y : Tail) → (earlier x y ≡ x) ⊎ (earlier x y ≡ y)
-earlier_picks Nothing y = inr refl
-earlier_picks (From a) Nothing = inl refl
-earlier_picks (From a) (From b) = elim (smaller_picks a b (ltb b.place a.place)) [ inl e ↦ inl (ap From e) | inr e ↦ inr (ap From e) ]
+earlier_picks None y = inr refl
+earlier_picks (Some a) None = inl refl
+earlier_picks (Some a) (Some b) = elim (smaller_picks a b (ltb b.place a.place)) [ inl e ↦ inl (ap Some e) | inr e ↦ inr (ap Some e) ]
 
 -- what a start that is contained in a mark says of it
-start_contained : (a : Start) (m : Tail) → Contained earlier (From a) m → (s : Start) × (m ≡ From s) × (s.place ≤ a.place)
-start_contained a Nothing e = start_is_not_nothing (sym e) refl
-start_contained a (From b) e =
+start_contained : (a : Start) (m : Tail) → Contained earlier (Some a) m → (s : Start) × (m ≡ Some s) × (s.place ≤ a.place)
+start_contained a None e = start_is_not_nothing (sym e) refl
+start_contained a (Some b) e =
     let f : b.place ≡ (smaller a b).place = same_from e refl in
     let g = smaller_place a b in
     (b, refl, omega arith)
 
 module _ (t : Tree alternatives) (w : List ℕ) (short : length w ≤ most_bytes) (mark : Tail) (v : Verdict tail t w mark) where
   -- each place from which on the frame belongs is at or behind the verdict's
-  at_most : (p : ℕ) → p ≤ length w → Words t (drop p w) → (s : Start) × (mark ≡ From s) × (s.place ≤ p)
+  at_most : (p : ℕ) → p ≤ length w → Words t (drop p w) → (s : Start) × (mark ≡ Some s) × (s.place ≤ p)
   at_most p h u =
       let a : Start = record { place = p; within = omega arith } in
       start_contained a mark (subst (λ x. Contained earlier x mark) (seed_is p (omega arith)) (v.contains (record { place = p; within = h; word = u })))
 
   -- the verdict is nothing, or a place from which on the frame belongs
-  taken : (mark ≡ Nothing) ⊎ ((a : Belongs t w) × (s : Start) × (mark ≡ From s) × (s.place ≡ a.place))
+  taken : (mark ≡ None) ⊎ ((a : Belongs t w) × (s : Start) × (mark ≡ Some s) × (s.place ≡ a.place))
   taken =
-      elim (chosen earlier Nothing earlier_laws (λ (a : Belongs t w). tail_seed a.place) earlier_picks v) [
+      elim (chosen earlier None earlier_laws (λ (a : Belongs t w). tail_seed a.place) earlier_picks v) [
         | inl e ↦ inl e
         | inr (a, e) ↦
             let h : a.place ≤ most_bytes = let k = a.within in omega arith in
             inr (a, record { place = a.place; within = h }, e ∙ seed_is a.place h, refl)
       ]
 
-  start_smallest : (p : ℕ) → (s : Start) × (mark ≡ From s) × (s.place ≡ p) → SmallestStart t w p
+  start_smallest : (p : ℕ) → (s : Start) × (mark ≡ Some s) × (s.place ≡ p) → SmallestStart t w p
   start_smallest p (s, e, f) =
       elim taken [
         | inl g ↦ start_is_not_nothing e g
@@ -121,7 +119,7 @@ module _ (t : Tree alternatives) (w : List ℕ) (short : length w ≤ most_bytes
             }
       ]
 
-  smallest_start : (p : ℕ) → SmallestStart t w p → (s : Start) × (mark ≡ From s) × (s.place ≡ p)
+  smallest_start : (p : ℕ) → SmallestStart t w p → (s : Start) × (mark ≡ Some s) × (s.place ≡ p)
   smallest_start p h =
       let m = at_most p h.within h.word in
       elim taken [

@@ -6,9 +6,8 @@ use Rattle.language.specs.Theorems.{UnitsTellTheTree}
 use Rattle.mark.specs.Joins.{JoinOf}
 use Rattle.mark.specs.Limits.{most_bytes}
 use Rattle.mark.specs.Marks.{Kind, Laws}
-use Rattle.mark.specs.Tail.{tail}
+use Rattle.mark.specs.Tail.{Tail, tail}
 use Rattle.mark.specs.YesNo.{yes_no}
-use Rattle.mark.specs.declared.tail.Tail.{Tail}
 use Rattle.mark.specs.declared.yes_no.YesNo.{YesNo}
 use Rattle.method.specs.Cells.{cells_after, settled}
 use Rattle.rule.specs.Tables.{RuleOf}

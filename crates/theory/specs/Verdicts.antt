@@ -1,12 +1,11 @@
 -- What verdicts mean.
-use Rattle.std.specs.Prelude.{◌≡◌, ℕ, ◌<◌, ◌≤◌, ◌↔◌, List, length, drop}
+use Rattle.std.specs.Prelude.{◌≡◌, ℕ, ◌<◌, ◌≤◌, ◌↔◌, List, length, drop, Some, None}
 use Rattle.language.specs.Patterns.{Tree, alternatives}
 use Rattle.language.specs.Words.{Words}
 use Rattle.mark.specs.Joins.{JoinOf}
 use Rattle.mark.specs.Marks.{Kind}
+use Rattle.mark.specs.Tail.{Tail}
 use Rattle.mark.specs.declared.start.Start.{Start}
-use Rattle.mark.specs.declared.tail.Tail.TheVariants as tail
-use Rattle.mark.specs.declared.tail.Tail.{Tail}
 use Rattle.mark.specs.declared.yes_no.YesNo.TheVariants as yes_no
 use Rattle.mark.specs.declared.yes_no.YesNo.{YesNo}
 
@@ -33,5 +32,5 @@ pub record SmallestStart (t : Tree alternatives) (w : List ℕ) (p : ℕ) : Type
 
 -- a start exactly when it is the smallest from which on the frame belongs, nothing exactly when there is none
 pub record SaysTheTail (t : Tree alternatives) (w : List ℕ) (mark : Tail) : Type 0 where
-  pub start : (p : ℕ) → ((s : Start) × (mark ≡ tail.From s) × (s.place ≡ p)) ↔ SmallestStart t w p
-  pub nothing : (mark ≡ tail.Nothing) ↔ ((p : ℕ) → p ≤ length w → ¬ Words t (drop p w))
+  pub start : (p : ℕ) → ((s : Start) × (mark ≡ Some s) × (s.place ≡ p)) ↔ SmallestStart t w p
+  pub nothing : (mark ≡ None) ↔ ((p : ℕ) → p ≤ length w → ¬ Words t (drop p w))

@@ -1,19 +1,14 @@
 use Rattle.board.specs.Makes.{counting}
-use Rattle.board.specs.Boards.{most_cells}
-use Rattle.drive.proofs.Driven.{marks_left}
+use Rattle.drive.proofs.Driven.{begun, marks_left}
 use Rattle.drive.proofs.drive_counting.Goals as goal
-use Rattle.drive.specs.Drives.{after, state, counted}
-use Rattle.std.proofs.Common.{◌≡◌, take, ap, ◌∙◌, rules}
+use Rattle.std.proofs.Common.{ap, ◌∙◌, rules}
 
 pub returns : goal.returns
 returns g c =
-    let was = c.args.marks.now in
-    let xs = c.args.accesses.now in
     let new = c.new-board.ensures in
-    let end = c.drive.new.board in
-    let done : state (take most_cells end.marks.now) end.touches ≡ counted was xs =
-    c.drive.ensures.done ∙ ap (λ s. after counting s xs) (λ j. state (take most_cells (new.1 j)) (new.2 j)) in
+    let run = c.last_reading.ensures in
+    let done = begun counting _ _ c.args.accesses.now new.1 new.2 run.done in
     record {
-      marks = marks_left was _ _ c.drive.ensures.kept new.1 (search rules) (ap (λ s. s.cells) done);
-      reading = c.reading.ensures ∙ ap (λ s. s.meter) done;
+      marks = marks_left c.args.marks.now _ _ run.kept.0 new.1 (search rules) (ap (λ s. s.cells) done);
+      reading = run.reading ∙ ap (λ s. s.meter) done;
     }

@@ -3,13 +3,13 @@ use Rattle.syntax.proofs.Spelled.{coded_begins, escaped_begins, no_escape}
 use Rattle.syntax.proofs.escape.Goals as goal
 use Rattle.syntax.proofs.escape.Goals.{in_default-via-then-bytes-lt2, in_default-via-else-bytes-lt2+then-bytes-lt4+in_default-1, in_default-via-else-bytes-lt2+else-bytes-lt4+in_default-1, in_default-via-else-bytes-lt2+in-92-2+else-is_special, then-bytes-lt4+in-92-1, else-bytes-lt4+in-92+in_default-1}
 
-pub returns-in-Some : goal.returns-in-Some
-returns-in-Some c = coded_begins c.args.bytes.now c.in-Some.b (search rules) (search rules) (search rules) c.in-Some.ensures
+pub returns-in_ok-b-in-92 : goal.returns-in_ok-b-in-92
+returns-in_ok-b-in-92 c = coded_begins c.args.bytes.now c.in_ok-b-in-92.b (search rules) (search rules) (search rules) c.in_ok-b-in-92.ensures
 
-pub returns-in-None : goal.returns-in-None
-returns-in-None c =
+pub returns-in_err-b-in-92 : goal.returns-in_err-b-in-92
+returns-in_err-b-in-92 c =
     let e : get_or c.args.bytes.now 1 0 ≡ 120 = search rules in
-    no_escape c.args.bytes.now (λ h a s. search rules) (λ v w h a b. c.in-None.ensures v w)
+    rw c.from_residual.ensures (no_escape c.args.bytes.now (λ h a s. search rules) (λ v w h a b. c.in_err-b-in-92.ensures v w))
 
 pub returns-in-92-2 : goal.returns-in-92-2
 returns-in-92-2 c = elim c.in-92-2-1.branch [

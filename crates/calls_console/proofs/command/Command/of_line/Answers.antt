@@ -1,5 +1,13 @@
-use Rattle.calls_console.proofs.Asked.{meant}
+use Rattle.std.proofs.Common.{List, ℕ, refl, subst}
 use Rattle.calls_console.proofs.command.Command.of_line.Goals as goal
+use Rattle.calls_console.specs.Lines.{Asks, Spells}
+use Rattle.calls_console.specs.declared.command.Command.{Command}
+use Rattle.lines.proofs.Divided.{one_rest, one_word}
+use Rattle.lines.specs.Lines.{Divides}
 
-pub returns : goal.returns
-returns c = meant _ _ _ c.if-is_blank.ensures c.if-is_comment.ensures c.divide.ensures c.asked.result c.asked.ensures
+-- a line spells a command by the one word and the one rest that it has
+asked_here : {line word rest : List ℕ} → Divides line word rest → (k : Command) → Spells line k → Asks word rest k
+asked_here {line} {word} {rest} d k s = subst (λ z. Asks z rest k) (one_word s.divides d) (subst (λ z. Asks s.word z k) (one_rest s.divides d) s.asks)
+
+pub returns-in-None : goal.returns-in-None
+returns-in-None c = (refl, c.if-is_blank.ensures, c.if-is_comment.ensures, λ k s. c.in-None.ensures k (asked_here c.of.ensures k s))

@@ -1,13 +1,10 @@
-use Rattle.std.proofs.Common.{◌≡◌, suc, ◌+◌, ◌-◌, ◌^◌, ◌<◌, cond, refl, ap, ◌∙◌, arith}
+use Rattle.std.proofs.Common.{◌≡◌, suc, ◌+◌, ◌-◌, ◌^◌, ◌<◌, cond, ap, ◌∙◌, arith}
 use Rattle.std.proofs.lemmas.Result.{err_from_is_err_and}
-use Rattle.screen.proofs.Stepping.{Stepping, at_next, step_count, step_ends, step_more, step_none, step_read, step_start}
+use Rattle.screen.proofs.Stepping.{Stepping, at_next, step_count, step_ends, step_more, step_read, step_start}
 use Rattle.screen.proofs.Underway.{read_refused, write_refused}
 use Rattle.screen.proofs.movements.Mover.step.Given.{Over}
 use Rattle.screen.proofs.movements.Mover.step.Goals as goal
 use Rattle.screen.proofs.movements.Mover.step.Goals.{At-loop-j, In-loop-j}
-
-pub loop-j-init : goal.loop-j-init
-loop-j-init g c = step_none g.B.Board g.B.M.Mark.kind _ _ _ _ (omega arith)
 
 -- a count far from its end
 few : (g : Over) (c : At-loop-j g) → c.loop-j.self.touches + 1 < 2 ^ 32

@@ -1,0 +1,19 @@
+use Rattle.board.proofs.Cells.{by_cells, mark_read}
+use Rattle.board.proofs.metered.MeteredBoard.read.Goals as goal
+use Rattle.board.specs.Boards.{read}
+use Rattle.board.specs.Lent.{lent_still}
+use Rattle.std.proofs.lemmas.Result.{err_from_is_err_and}
+use Rattle.std.proofs.Common.{Err, Ok, refl, rules}
+
+pub returns-in_err-at : goal.returns-in_err-at
+returns-in_err-at g c =
+    let p = err_from_is_err_and c.from_residual.result c.from_residual.ensures.1 in
+    let why = by_cells g.G.Meter.make c.args.self.now.marks.now _ (read c.args.cell) _ (Err c.in_err-at.field-0.0) c.in_err-at.ensures.done in
+    rw (p.1, p.2) (record { kept = (lent_still _, c.admit.ensures.kept); done = (why.0, refl, why.1) })
+
+pub returns : goal.returns
+returns g c =
+    let xs = c.args.self.now.marks.now in
+    let there = c.in_ok-at.ensures.done in
+    let done = by_cells g.G.Meter.make xs _ (read c.args.cell) _ (Ok c.in_ok-at.at) there in
+    record { kept = (lent_still _, c.admit.ensures.kept); done = (done.0, mark_read xs (there.1, there.0.inside) _ (search rules), refl, done.2) }

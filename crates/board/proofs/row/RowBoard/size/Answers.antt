@@ -1,5 +1,0 @@
-use Rattle.std.proofs.Common.{sym, ◌∙◌, length-take}
-use Rattle.board.proofs.row.RowBoard.size.Goals as goal
-
-pub returns : goal.returns
-returns g c = c.cells_in.ensures ∙ sym (length-take _ _)

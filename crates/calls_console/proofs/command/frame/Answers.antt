@@ -1,0 +1,10 @@
+use Rattle.std.proofs.Common.{subst}
+use Rattle.calls_console.specs.Numbers.{Decimal}
+use Rattle.lines.proofs.Divided.{one_rest, one_word}
+use Rattle.calls_console.proofs.command.frame.Goals as goal
+
+pub returns-in_err-renter_number : goal.returns-in_err-renter_number
+returns-in_err-renter_number c = rw c.from_residual.ensures (λ r b o. c.in_err-renter_number.ensures r (subst (λ z. Decimal 8 z r) (one_word o.divides c.of-parts.ensures) o.renter_is))
+
+pub returns-in_err-number : goal.returns-in_err-number
+returns-in_err-number c = rw c.from_residual-in_err-number.ensures (λ r b o. c.in_err-number.ensures b (subst (λ z. Decimal 64 z b) (one_rest o.divides c.of-parts.ensures) o.bytes_are))

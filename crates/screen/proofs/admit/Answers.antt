@@ -1,9 +1,0 @@
-use Rattle.screen.proofs.admit.Goals as goal
-use Rattle.screen.specs.Moving.{a_cell, allowance}
-use Rattle.std.proofs.Common.{arith}
-
-pub returns-then-from-size : goal.returns-then-from-size
-returns-then-from-size g c = a_cell (omega arith)
-
-pub returns-then-allowance-touches : goal.returns-then-allowance-touches
-returns-then-allowance-touches g c = allowance (omega arith) (omega arith)
