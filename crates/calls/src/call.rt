@@ -30,7 +30,7 @@ pub enum Answer<M> {
 }
 
 /// Why a call stopped, and if it was a load at which place of the pattern.
-#[derive(Clone, Copy)]
+#[derive(Clone, Copy, Debug, PartialEq, Eq)]
 pub struct Refusal {
     pub stop: Stop,
     pub place: Option<usize>,
