@@ -5,7 +5,7 @@ ghost use Rattle.board.specs.Lent.{lent_small};
 ghost use Rattle.board.specs.Meters.{Admits, metered, touch_of};
 ghost use Rattle.std.specs.Prelude.{length, min, take};
 
-use crate::slice::{cells_in, index};
+use crate::slice::{cells_in, index, put};
 use crate::{Board, Meter, Touch};
 use mark::Mark;
 use stops::Stop;
@@ -71,7 +71,7 @@ impl<'a, M: Mark, W, G: Meter<W>> Board for Metered<'a, M, W, G> {
     fn write(&mut self, cell: u64, mark: M) -> Result<(), Stop> {
         let len = self.marks.len();
         let at = admit(&mut self.meter, &mut self.memory, len, Touch::Write(cell))?;
-        self.marks[at] = mark;
+        put(self.marks, at, mark);
         Ok(())
     }
 }

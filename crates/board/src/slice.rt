@@ -1,6 +1,6 @@
 //! Cells in a slice that the caller lends.
 
-ghost use Rattle.std.specs.Prelude.{◌≡◌, ◌<◌, ◌≤◌, min, MatchResult};
+ghost use Rattle.std.specs.Prelude.{◌≡◌, ◌<◌, ◌≤◌, min, length, MatchResult, slice_set};
 ghost use Rattle.board.specs.Boards.{most_cells};
 ghost use Rattle.stops.specs.Stops.{stop_number};
 
@@ -24,4 +24,12 @@ pub(crate) fn index(len: usize, cell: u64) -> Result<usize, Stop>
         Ok(at) if at < cells_in(len) => Ok(at),
         _ => Err(Stop::NoCell),
     }
+}
+
+/// Puts a value into a slice.
+pub(crate) fn put<T: Copy>(slice: &mut [T], at: usize, value: T)
+    requires { at < length slice.old }
+    ensures { slice.new ≡ slice_set slice.old at value }
+{
+    slice[at] = value;
 }

@@ -1,6 +1,6 @@
 -- Movements leave the cells above the last position alone.
-use Rattle.std.proofs.Common.{◌≡◌, ℕ, zero, suc, ◌+◌, ◌≤◌, Bool, ◌≢◌, List, get_or, set, Option, sym, refl, ap, ◌∙◌, subst, arith, length-set, get_or-set_other}
-use Rattle.method.specs.Cells.{across, filled, first_mark, joined_at, scan_from, shift, shift_over, stepped, stepped_over}
+use Rattle.std.proofs.Common.{◌≡◌, ℕ, zero, suc, ◌+◌, ◌≤◌, ◌≢◌, List, get_or, set, Option, sym, refl, ap, ◌∙◌, subst, arith, length-set, get_or-set_other}
+use Rattle.method.specs.Cells.{across, filled, first_mark, joined_at, scan_from, shift_over, stepped_over}
 use Rattle.method.specs.Theorems.{LeavesOthers, MovementsLeaveOtherCells}
 
 module _ {M : Type 0} where
@@ -36,16 +36,6 @@ module _ {M : Type 0} where
         after_set n (suc j) (over j (get_or cells j nothing)) cells (shift_over nothing over j (set cells (suc j) (over j (get_or cells j nothing)))) h
         (shift_others n j (set cells (suc j) (over j (get_or cells j nothing))) (omega arith))
 
-  module _ (nothing : M) (takes : ℕ → Bool) where
-    -- where a mark comes over as it is
-    shift_same : (j : ℕ) (cells : List M) → shift nothing takes j cells ≡ shift_over nothing (across nothing takes) j cells
-    unfolding shift shift_over
-    shift_same zero cells = refl
-    shift_same (suc j) cells = shift_same j (set cells (suc j) (across nothing takes j (get_or cells j nothing)))
-
-    pub stepped_same : (seed : M) (n : ℕ) (cells : List M) → stepped nothing takes seed n cells ≡ stepped_over nothing (across nothing takes) seed n cells
-    stepped_same seed n cells = ap (λ z. set z 0 seed) (shift_same n cells)
-
   -- something is done, then one cell is written
   then_set : (n i : ℕ) (m : M) (cells rest : List M) → i ≤ n → LeavesOthers n cells rest → LeavesOthers n cells (set rest i m)
   then_set n i m cells rest h l = record {
@@ -60,6 +50,6 @@ pub leave_others : (M : Type 0) → MovementsLeaveOtherCells M
 leave_others M = record {
   placing = λ seed nothing n cells. filled_others (first_mark seed nothing) n (suc n) 0 cells (omega arith);
   scanning = λ join nothing first second n cells. scan_others join nothing first second n (suc n) 0 cells (omega arith);
-  stepping = λ nothing takes seed n cells. subst (LeavesOthers n cells) (sym (stepped_same nothing takes seed n cells)) (stepped_over_others nothing (across nothing takes) seed n cells);
+  stepping = λ nothing takes seed n cells. stepped_over_others nothing (across nothing takes) seed n cells;
   wiping = λ nothing n cells. filled_others (λ j. nothing) n (suc n) 0 cells (omega arith);
 }

@@ -32,10 +32,16 @@ module _ {M : Type 0} (nothing : M) (takes : ℕ → Bool) where
   abbrev pub across : ℕ → M → M
   across j mark = cond (takes j) mark nothing
 
-  -- from cell j down to cell 1: each becomes what comes over the position before it
-  unfoldable pub shift : ℕ → List M → List M
-  shift zero cells = cells
-  shift (suc j) cells = shift j (slice_set cells (suc j) (across j (slice_index_or cells j nothing)))
+-- The byte step, where the mark that comes over a position may be another than the one there.
+module _ {M : Type 0} (nothing : M) (over : ℕ → M → M) where
+  -- from cell j down to cell 1: each becomes what comes over the position before it from the mark there
+  unfoldable pub shift_over : ℕ → List M → List M
+  shift_over zero cells = cells
+  shift_over (suc j) cells = shift_over j (slice_set cells (suc j) (over j (slice_index_or cells j nothing)))
+
+  -- and with seed(bytes fed) put into cell 0
+  abbrev pub stepped_over : M → ℕ → List M → List M
+  stepped_over seed n cells = slice_set (shift_over n cells) 0 seed
 
 -- The movements, for a rule whose last position is n.
 abbrev pub placed : {M : Type 0} → M → M → ℕ → List M → List M
@@ -52,22 +58,12 @@ scanned_times join nothing first second n (suc m) cells = scanned join nothing f
 abbrev pub settled : {M : Type 0} → (M → M → M) → M → (ℕ → Option ℕ) → (ℕ → Option ℕ) → ℕ → List M → List M
 settled join nothing first second n cells = scanned_times join nothing first second n 2 cells
 
--- the byte step, with seed(bytes fed) put into cell 0
+-- the byte step where a mark comes over as it is, or does not
 abbrev pub stepped : {M : Type 0} → M → (ℕ → Bool) → M → ℕ → List M → List M
-stepped nothing takes seed n cells = slice_set (shift nothing takes n cells) 0 seed
+stepped nothing takes seed n cells = stepped_over nothing (across nothing takes) seed n cells
 
 abbrev pub wiped : {M : Type 0} → M → ℕ → List M → List M
 wiped nothing n cells = filled (λ j. nothing) (suc n) 0 cells
-
--- The byte step where the mark that comes over a position may be another than the one there.
-module _ {M : Type 0} (nothing : M) (over : ℕ → M → M) where
-  -- from cell j down to cell 1: each becomes what comes over the position before it from the mark there
-  unfoldable pub shift_over : ℕ → List M → List M
-  shift_over zero cells = cells
-  shift_over (suc j) cells = shift_over j (slice_set cells (suc j) (over j (slice_index_or cells j nothing)))
-
-abbrev pub stepped_over : {M : Type 0} → M → (ℕ → M → M) → M → ℕ → List M → List M
-stepped_over nothing over seed n cells = slice_set (shift_over nothing over n cells) 0 seed
 
 -- A frame, for tables that say which positions link to each one (first, second), and which bytes each takes.
 module _ {M : Type 0} (kind : Kind M) (first second : ℕ → Option ℕ) (takes : ℕ → ℕ → Bool) (n : ℕ) where

@@ -3,7 +3,7 @@ use Rattle.std.proofs.Common.{◌≡◌, ℕ, suc, ◌+◌, ◌*◌, ◌≤◌, 
 use Rattle.board.specs.Boards.{Touch, read, write}
 use Rattle.board.specs.declared.Board.{Ghosts}
 use Rattle.mark.specs.Marks.{Kind}
-use Rattle.method.specs.Cells.{across, shift}
+use Rattle.method.specs.Cells.{across, shift_over}
 use Rattle.rule.specs.Words.{takes_at}
 use Rattle.rule.specs.declared.table.Rule.{Rule}
 use Rattle.screen.proofs.Lengths.{length_stepping}
@@ -20,7 +20,7 @@ module _ {B M : Type 0} (board : Ghosts B M) (kind : Kind M) (rule : Rule) (byte
   Going rest m = Underway board old (stepping_of rule) rest m
 
   abbrev shifted : ℕ → List M → List M
-  shifted j cells = shift kind.nothing (takes_at rule.words byte) j cells
+  shifted j cells = shift_over kind.nothing (across kind.nothing (takes_at rule.words byte)) j cells
 
   abbrev over : ℕ → M → M
   over j mark = across kind.nothing (takes_at rule.words byte) j mark
@@ -45,7 +45,7 @@ module _ {B M : Type 0} (board : Ghosts B M) (kind : Kind M) (rule : Rule) (byte
       step_read = read_on board e₁ step_start r
 
       pub step_more : {i₂ : ℕ} (e₂ : i₂ ≡ suc i) {m₂ : Mover B} (v : M) {done : Unit {0}} → WriteOf board m₁ i₂ v m₂ (Ok done) → v ≡ over i a → Stepping i m₂
-      unfolding shift
+      unfolding shift_over
       step_more {i₂} e₂ {m₂} v w e =
           let cells = cells_on board m in
           let g : get_or cells i kind.nothing ≡ a = ap (λ z. get_or cells z kind.nothing) (sym e₁) ∙ sym (get_or_read cells i₁ a r.done.0.inside r.done.1 kind.nothing) in
@@ -63,6 +63,6 @@ module _ {B M : Type 0} (board : Ghosts B M) (kind : Kind M) (rule : Rule) (byte
 
     -- seed(bytes fed) is put into cell 0, or the write is refused
     pub step_ends : {m' : Mover B} {v : M} {fed : ℕ} → v ≡ kind.seed fed → (r : Result (Unit {0}) Stop) → WriteOf board m 0 v m' r → Movement board old (stepping_of rule) (stepped_by kind byte fed rule) m' r
-    unfolding shift
+    unfolding shift_over
     step_ends {v = v} {fed} k (Ok done) w = all_done board (stepped_by kind byte fed rule) (write_on board refl v last_write w) (w.done.1 ∙ ap (λ z. set z 0 v) at_zero.shifts_on ∙ ap (set (shifted rule.last (cells_on board old)) 0) k)
     step_ends k (Err s) w = write_refused board last_write refl w

@@ -5,8 +5,8 @@ use Rattle.board.specs.Boards.{Make, Touch, read}
 use Rattle.board.specs.declared.Board.{Ghosts}
 use Rattle.language.proofs.Option.{clash}
 use Rattle.mark.specs.Marks.{Kind}
-use Rattle.method.proofs.Others.{leave_others, stepped_over_others, stepped_same}
-use Rattle.method.specs.Cells.{across, begun, fed, stepped_over}
+use Rattle.method.proofs.Others.{leave_others}
+use Rattle.method.specs.Cells.{begun, fed}
 use Rattle.rule.specs.Words.{first_of, second_of, takes_at}
 use Rattle.rule.specs.declared.table.Rule.{Rule}
 use Rattle.screen.proofs.Chained.{by_rule, chained, cut_first, one_read}
@@ -105,17 +105,6 @@ module _ {B M : Type 0} (board : Ghosts B M) where
 
     -- step, then settle
     module _ (byte i : ℕ) where
-      abbrev over : List M → List M
-      over cells = stepped_over kind.nothing (across kind.nothing (takes_at rule.words byte)) (kind.seed i) rule.last cells
-
-      stepped_is_over : {m : Mover B} → Movement board old (stepping_of rule) (stepped_by kind byte i rule) m (Ok tt) → Movement board old (stepping_of rule) over m (Ok tt)
-      stepped_is_over {m} p = record {
-        on = p.on;
-        done = subst (λ z. Moves board.make (cells_on board old) (meter_on board old) (stepping_of rule) z (cells_on board m) (meter_on board m) (length (stepping_of rule))) (stepped_same kind.nothing (takes_at rule.words byte) (kind.seed i) rule.last (cells_on board old)) p.done;
-        counted = p.counted;
-        enough = p.enough;
-      }
-
       pub feed_cut : {m : Mover B} {s : Stop} → Movement board old (stepping_of rule) (stepped_by kind byte i rule) m (Err s) → Movement board old (feeding_of rule) (fed_by kind byte i rule) m (Err s)
       feed_cut p = cut_first board (stepping_of rule) (settling_of rule) (stepped_by kind byte i rule) (fed_by kind byte i rule) p
 
@@ -123,7 +112,7 @@ module _ {B M : Type 0} (board : Ghosts B M) where
           → Movement board m (settling_of m.rule.now) (settled_by kind m.rule.now) new r → Movement board old (feeding_of rule) (fed_by kind byte i rule) new r
       unfolding fed
       feed_on {r = r} p n =
-          chained board (stepping_of rule) (settling_of rule) over (settled_by kind rule) (stepped_over_others kind.nothing (across kind.nothing (takes_at rule.words byte)) (kind.seed i) rule.last (cells_on board old)).long (stepped_is_over p) r
+          chained board (stepping_of rule) (settling_of rule) (stepped_by kind byte i rule) (settled_by kind rule) ((leave_others M).stepping kind.nothing (takes_at rule.words byte) (kind.seed i) rule.last (cells_on board old)).long p r
           (by_rule board settling_of (settled_by kind) p.on n)
 
     -- read, then wipe

@@ -76,8 +76,7 @@ impl fmt::Display for Heard {
     fn fmt<W: fmt::Write>(&self, f: &mut fmt::Formatter<W>) -> fmt::Result {
         match self.0 {
             Ok(Answer::Number(number)) => write!(f, "{number}"),
-            Ok(Answer::Verdict(YesNo::Yes, touches)) => write!(f, "yes, {touches}"),
-            Ok(Answer::Verdict(YesNo::Nothing, touches)) => write!(f, "nothing, {touches}"),
+            Ok(Answer::Verdict(verdict, touches)) => write!(f, "{verdict}, {touches}"),
             Err(refusal) => {
                 let number = refusal.stop.number();
                 write!(f, "stop {number}")

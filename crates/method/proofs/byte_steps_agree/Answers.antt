@@ -1,5 +1,5 @@
-use Rattle.method.proofs.Others.{stepped_same}
 use Rattle.method.proofs.byte_steps_agree.Goals as goal
+use Rattle.std.proofs.Common.{refl}
 
 pub returns : goal.returns
-returns g c = stepped_same
+returns g c = λ nothing takes seed n cells. refl
