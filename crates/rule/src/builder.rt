@@ -175,7 +175,7 @@ impl Builder {
             first,
             second,
         };
-        self.words[self.count as usize] = word_of(entry);
+        self.words[usize::from(self.count)] = word_of(entry);
         self.count += 1;
     }
 
@@ -246,7 +246,7 @@ impl Builder {
         let start = self.start;
         self.lay(PatternUnit::Repeat(sign), skipped_from(sign, start));
         if leads_back(sign) {
-            self.words[start as usize] = with_last(self.words[start as usize], position);
+            self.words[usize::from(start)] = with_last(self.words[usize::from(start)], position);
         }
         self.front = Some(position);
         self.last = Last::Sign;
@@ -302,7 +302,7 @@ impl Builder {
             first: Some(position),
             second: None,
         };
-        self.words[self.count as usize] = word_of(end);
+        self.words[usize::from(self.count)] = word_of(end);
         Rule {
             words: self.words,
             last: self.count,
