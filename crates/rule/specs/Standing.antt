@@ -81,10 +81,11 @@ Answers p us os x (Ok done) b' = Took b' p.unit p.place us os x
 Answers p us os x (Err f) b' = Refused p.unit os x (stop_number f.stop) × (f.place ≡ p.place)
 
 -- what is answered where a builder of this count asks for the unit at the place p: 1 comes before 2
-abbrev pub NextWithin : ℕ → ℕ → List ℕ → ℕ → Result (Option Placed) Fault → ℕ → Type 0
-NextWithin count place bytes p (Ok o) p' = (count ≤ most_units) × Next bytes p (Ok o) p'
-NextWithin count place bytes p (Err f) p' =
-    ((most_units < count) × (stop_number f.stop ≡ 1) × (f.place ≡ place)) ⊎ ((count ≤ most_units) × Next bytes p (Err f) p')
+abbrev pub NextWithin : ℕ → List ℕ → ℕ → Result (Option Placed) Fault → ℕ → Type 0
+NextWithin count bytes p (Ok None) p' = Next bytes p (Ok None) p'
+NextWithin count bytes p (Ok (Some x)) p' = (count ≤ most_units) × Next bytes p (Ok (Some x)) p'
+NextWithin count bytes p (Err f) p' =
+    ((most_units < count) × (p < length bytes) × (stop_number f.stop ≡ 1) × (f.place ≡ p)) ⊎ ((count ≤ most_units) × Next bytes p (Err f) p')
 
 -- the bytes read without a fault, and the builder stands to their units
 pub record ReadTo (bytes : List ℕ) (b : Builder) : Type 0 where

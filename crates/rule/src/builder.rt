@@ -154,12 +154,14 @@ impl Builder {
         Ok(())
     }
 
-    /// The next unit of the pattern. Stop 1, for a byte behind the most units, comes before stop 2.
-    fn next_unit(&self, reader: &mut Reader<'_>, place: usize) -> Result<Option<Placed>, Fault>
+    /// The next unit of the pattern, and nothing at its end. Stop 1, for a byte behind the most units, comes before stop 2.
+    fn next_unit(&self, reader: &mut Reader<'_>) -> Result<Option<Placed>, Fault>
         ensures same { reader.new.pattern.now ≡ reader.old.pattern.now }
-        ensures reads { NextWithin self.now.count place reader.old.pattern.now reader.old.place result reader.new.place }
+        ensures reads { NextWithin self.now.count reader.old.pattern.now reader.old.place result reader.new.place }
     {
-        self.admit(place)?;
+        if let Some(place) = reader.next_place() {
+            self.admit(place)?;
+        }
         reader.next_unit()
     }
 
@@ -316,10 +318,8 @@ fn read_units(pattern: &[u8]) -> Result<Builder, Fault>
 {
     let mut reader = Reader::new(pattern);
     let mut builder = Builder::new();
-    while let Some(place) = reader.next_place() {
-        if let Some(placed) = builder.next_unit(&mut reader, place)? {
-            builder.take(placed)?;
-        }
+    while let Some(placed) = builder.next_unit(&mut reader)? {
+        builder.take(placed)?;
     }
     Ok(builder)
 }
