@@ -13,7 +13,7 @@ ghost use Rattle.syntax.specs.declared.PatternUnit.{PatternUnit as Written};
 ghost use Rattle.language.specs.Limits.{most_groups, most_units};
 
 use crate::table::{POSITIONS, Rule};
-use crate::word::{ABSENT, Entry, Kind};
+use crate::word::{ABSENT, Entry, Kind, word_of};
 use crate::{MOST_GROUPS, MOST_UNITS};
 use stops::Stop;
 use syntax::{Fault, Letter, PatternUnit, Placed, Reader, Sign};
@@ -61,23 +61,6 @@ fn byte(unit: PatternUnit) -> u8
         PatternUnit::Plain(Letter::Byte(b)) => b,
         _ => 0,
     }
-}
-
-/// A predecessor as ten bits.
-fn field(predecessor: Option<u16>) -> u32
-    requires { Position predecessor }
-    ensures { Holds result predecessor }
-{
-    predecessor.map_or(ABSENT, u32::from)
-}
-
-/// The word of an entry.
-fn word_of(entry: Entry) -> u32
-    requires { (Position entry.first) × (Position entry.second) }
-    ensures { Says result entry.kind entry.byte entry.first entry.second }
-{
-    let fields = (field(entry.first) << 10) + field(entry.second);
-    (u32::from(entry.kind) << 28) + (u32::from(entry.byte) << 20) + fields
 }
 
 /// The two, the smaller first, an only one first.
