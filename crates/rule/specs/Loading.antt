@@ -6,6 +6,10 @@ use Rattle.rule.specs.declared.table.Rule.{Rule}
 use Rattle.stops.specs.Stops.{stop_number}
 use Rattle.syntax.specs.declared.Fault.{Fault}
 
+-- the rule is that of the pattern
+abbrev pub IsRuleOf : List ℕ → Rule → Type 0
+IsRuleOf bytes rule = RuleOf bytes rule.last rule.words
+
 -- a rule has no word for the position j: it is past the last one
 abbrev pub NoWord : Rule → ℕ → Type 0
 NoWord rule j = rule.last < j

@@ -71,6 +71,12 @@ pub record Ready (b : Builder) : Type 0 where
   pub stands : Stands b us os x
   pub few : length us < most_units
 
+-- a builder b becomes b', which has also taken the unit u, wherever u may stand at a place
+abbrev pub Takes : Builder → PatternUnit → ℕ → Builder → Type 0
+Takes b u place b' =
+    (us : List PatternUnit) (os : List ℕ) (x : Before) (os' : List ℕ) (x' : Before) →
+    Stands b us os x → Goes place u os x os' x' → Stands b' (us ++ (u ∷ [])) os' x'
+
 -- what becomes of a builder that is given the unit u at a place
 abbrev pub Took : Builder → PatternUnit → ℕ → List PatternUnit → List ℕ → Before → Type 0
 Took b' u place us os x = (os' : List ℕ) × (x' : Before) × Goes place u os x os' x' × Stands b' (us ++ (u ∷ [])) os' x'

@@ -2,10 +2,9 @@
 
 ghost use Rattle.std.specs.Prelude.{◌≡◌, ℕ, ◌+◌, ◌-◌, ◌%◌, ◌<◌, ◌≤◌, List, [], ◌∷◌, ◌++◌, length, Some, None, Option as Maybe, MatchOption, MatchResult, slice_index};
 ghost use Rattle.language.specs.Answers.{NoFault, OnlyFault};
-ghost use Rattle.language.specs.Faults.{Before, Faulty, operand, sign as after_sign, start};
-ghost use Rattle.rule.specs.Growing.{Sofar};
-ghost use Rattle.rule.specs.Standing.{Answers, LaidDown, NextWithin, OpenedLast, ReadTo, Ready, Room, Stands, Took, loops_back, skip_of};
-ghost use Rattle.rule.specs.Tables.{RuleOf, WordsOf};
+ghost use Rattle.language.specs.Faults.{Before, Faulty, start};
+ghost use Rattle.rule.specs.Standing.{Answers, LaidDown, NextWithin, OpenedLast, ReadTo, Ready, Room, Stands, Takes, loops_back, skip_of};
+ghost use Rattle.rule.specs.Loading.{IsRuleOf};
 ghost use Rattle.rule.specs.Words.{Holds, Position, Says, Under, absent, byte_of, firsts, seconds};
 ghost use Rattle.stops.specs.Stops.{stop_number};
 ghost use Rattle.syntax.specs.declared.PatternUnit.TheVariants.{Bar, Close, Open, Plain, Repeat};
@@ -167,7 +166,7 @@ impl Builder {
     /// Takes a letter.
     fn letter(&mut self, letter: Letter)
         requires { Ready self.old }
-        ensures { (us : List Written) (os : List ℕ) (x : Before) → Stands self.old us os x → Stands self.new (us ++ (Plain letter ∷ [])) os operand }
+        ensures { (place : ℕ) → Takes self.old (Plain letter) place self.new }
     {
         let position = self.count;
         self.lay(PatternUnit::Plain(letter), None);
@@ -179,7 +178,7 @@ impl Builder {
     /// Takes a `(` at a place.
     fn open_group(&mut self, place: usize)
         requires { (Ready self.old) × (self.old.depth ≤ most_groups) }
-        ensures { (us : List Written) (os : List ℕ) (x : Before) → length os < most_groups → Stands self.old us os x → Stands self.new (us ++ (Open ∷ [])) (place ∷ os) start }
+        ensures { Takes self.old Open place self.new }
     {
         let position = self.count;
         self.lay(PatternUnit::Open, None);
@@ -197,7 +196,7 @@ impl Builder {
     /// Takes a `)`.
     fn close_group(&mut self)
         requires { Ready self.old }
-        ensures { (us : List Written) (o : ℕ) (os : List ℕ) (x : Before) → Stands self.old us (o ∷ os) x → Stands self.new (us ++ (Close ∷ [])) os operand }
+        ensures { (place : ℕ) → Takes self.old Close place self.new }
     {
         let position = self.count;
         let closed = self.groups[self.depth - 1];
@@ -211,7 +210,7 @@ impl Builder {
     /// Takes a `|`.
     fn bar(&mut self)
         requires { Ready self.old }
-        ensures { (us : List Written) (os : List ℕ) (x : Before) → Stands self.old us os x → Stands self.new (us ++ (Bar ∷ [])) os start }
+        ensures { (place : ℕ) → Takes self.old Bar place self.new }
     {
         let position = self.count;
         let group = self.groups[self.depth - 1];
@@ -225,7 +224,7 @@ impl Builder {
     /// Takes a repeat sign behind its operand.
     fn repeat(&mut self, sign: Sign)
         requires { (Ready self.old) × (self.old.last ≡ Last.Operand) }
-        ensures { (us : List Written) (os : List ℕ) → Stands self.old us os operand → Stands self.new (us ++ (Repeat sign ∷ [])) os after_sign }
+        ensures { (place : ℕ) → Takes self.old (Repeat sign) place self.new }
     {
         let position = self.count;
         let start = self.start;
@@ -276,7 +275,7 @@ impl Builder {
     /// Adds the CLOSE and the END: the rule of a pattern whose units the builder has taken.
     fn finish(mut self) -> Rule
         requires { ((bytes : List ℕ) × ReadTo bytes self) × (self.depth ≡ 1) }
-        ensures { (bytes : List ℕ) → ReadTo bytes self → RuleOf bytes result.last result.words }
+        ensures { (bytes : List ℕ) → ReadTo bytes self → IsRuleOf bytes result }
     {
         let position = self.count;
         let whole = self.groups[self.depth - 1];
@@ -309,7 +308,7 @@ fn read_units(pattern: &[u8]) -> Result<Builder, Fault>
 
 /// The rule of the empty pattern.
 pub fn empty_rule() -> Rule
-    ensures { RuleOf [] result.last result.words }
+    ensures { IsRuleOf [] result }
 {
     let builder = Builder::new();
     builder.finish()
@@ -317,7 +316,7 @@ pub fn empty_rule() -> Rule
 
 /// Reads a pattern: its rule, or its one fault.
 pub fn read(pattern: &[u8]) -> Result<Rule, Fault>
-    ensures answers { MatchResult result (λ rule. RuleOf pattern.now rule.last rule.words) (λ f. Faulty pattern.now (stop_number f.stop) f.place) }
+    ensures answers { MatchResult result (λ rule. IsRuleOf pattern.now rule) (λ f. Faulty pattern.now (stop_number f.stop) f.place) }
     ensures exactly { MatchResult result (λ _. NoFault pattern.now) (λ f. OnlyFault pattern.now (stop_number f.stop) f.place) }
 {
     let builder = read_units(pattern)?;

@@ -1,3 +1,4 @@
+use Rattle.language.specs.Faults.{a_sign}
 use Rattle.rule.proofs.Readied.{room_of, start_kept}
 use Rattle.rule.proofs.Stood.{loops_of, no_loops, stood_back, stood_over}
 use Rattle.rule.proofs.builder.Builder.repeat.Goals as goal
@@ -16,7 +17,7 @@ with_last-requires c =
     (omega arith, rw c.from.ensures (start_kept b c.lay.new.self c.lay.ensures c.requires.0 c.requires.1))
 
 pub returns : goal.returns
-returns c us os s =
+returns c place us os x os' x' s a_sign =
     let b = c.args.self.now in
     let g = c.args.sign in
     let d = subst (λ z. LaidDown b (Repeat g) z c.lay.new.self) c.skipped_from.ensures.0 c.lay.ensures in
