@@ -1,5 +1,5 @@
 -- What a builder that may take one more unit has room for, and what becomes of it.
-use Rattle.std.proofs.Common.{◌≡◌, ◌≢◌, ℕ, ◌+◌, ◌%◌, ◌<◌, ◌≤◌, List, [], ◌∷◌, ◌++◌, length, get_or, Some, None, Option, sym, refl, ap, ◌∙◌, subst, inl, arith, get_or-set_other}
+use Rattle.std.proofs.Common.{◌≡◌, ◌≢◌, ℕ, ◌+◌, ◌%◌, ◌<◌, ◌≤◌, List, [], ◌∷◌, length, get_or, Some, None, Option, sym, refl, ap, ◌∙◌, subst, inl, arith, get_or-set_other}
 use Rattle.language.proofs.Settled.{settled}
 use Rattle.language.specs.Faults.{Before, Refused, a_close, a_sign, no_operand, nothing_open, operand, sign, sign_after_sign, start, too_deep}
 use Rattle.language.specs.Limits.{most_groups, most_units}
