@@ -16,5 +16,5 @@ NoWord rule j = rule.last < j
 
 -- what loading a pattern into a slot answers, and what the slot holds before and after
 abbrev pub Loads : List ℕ → Option Rule → Result ℕ Fault → Option Rule → Type 0
-Loads bytes before (Ok n) after = (rule : Rule) × (after ≡ Some rule) × (rule.last ≡ n) × RuleOf bytes n rule.words
+Loads bytes before (Ok n) after = (rule : Rule) × (after ≡ Some rule) × (rule.last ≡ n) × IsRuleOf bytes rule
 Loads bytes before (Err f) after = Faulty bytes (stop_number f.stop) f.place × (after ≡ before)
