@@ -1,12 +1,12 @@
 -- What a builder that may take one more unit has room for, and what becomes of it.
-use Rattle.std.proofs.Common.{◌≡◌, ◌≢◌, ℕ, ◌+◌, ◌%◌, ◌<◌, ◌≤◌, List, [], ◌∷◌, ◌++◌, length, get_or, Some, None, Option, sym, refl, ap, ◌∙◌, subst, inl, arith, get_or-set_other}
+use Rattle.std.proofs.Common.{◌≡◌, ◌≢◌, ℕ, ◌+◌, ◌%◌, ◌<◌, ◌≤◌, List, [], ◌∷◌, length, get_or, Some, None, Option, sym, refl, ap, ◌∙◌, subst, inl, arith, get_or-set_other}
 use Rattle.language.proofs.Settled.{settled}
 use Rattle.language.specs.Faults.{Before, Refused, a_close, a_sign, no_operand, nothing_open, operand, sign, sign_after_sign, start, too_deep}
 use Rattle.language.specs.Limits.{most_groups, most_units}
 use Rattle.language.specs.Links.{Predecessors}
 use Rattle.rule.proofs.Stood.{top}
 use Rattle.rule.specs.Growing.{Sofar}
-use Rattle.rule.specs.Standing.{LaidDown, OpenedLast, Ready, Room, Stands, Took, before_of}
+use Rattle.rule.specs.Standing.{LaidDown, OpenedLast, Ready, Room, Stands, Takes, Took, before_of}
 use Rattle.rule.specs.Words.{Holds, Position, Under}
 use Rattle.rule.specs.declared.builder.Builder.{Builder}
 use Rattle.rule.specs.declared.builder.Last.TheVariants as last
@@ -88,15 +88,14 @@ refused_first g os x h = subst (λ z. Refused (Repeat g) os z 5) (sym h) no_oper
 pub refused_again : (g : Sign) (os : List ℕ) (x : Before) → x ≡ sign → Refused (Repeat g) os x 6
 refused_again g os x h = subst (λ z. Refused (Repeat g) os z 6) (sym h) sign_after_sign
 
-pub took_close : (b b' : Builder) (p : ℕ) (us : List PatternUnit) (os : List ℕ) (x : Before) → Stands b us os x → 1 < b.depth
-    → ((vs : List PatternUnit) (o : ℕ) (qs : List ℕ) (y : Before) → Stands b vs (o ∷ qs) y → Stands b' (vs ++ (Close ∷ [])) qs operand) → Took b' Close p us os x
+pub took_close : (b b' : Builder) (p : ℕ) (us : List PatternUnit) (os : List ℕ) (x : Before) → Stands b us os x → 1 < b.depth → Takes b Close p b' → Took b' Close p us os x
 took_close b b' p us [] x s h f = let d = s.depth in let o = s.opens in let z : ⊥ = omega arith in absurd z
-took_close b b' p us (o ∷ os) x s h f = (os, operand, a_close, f us o os x s)
+took_close b b' p us (o ∷ os) x s h f = (os, operand, a_close, f us (o ∷ os) x os operand s a_close)
 
 pub took_sign : (b b' : Builder) (g : Sign) (p : ℕ) (us : List PatternUnit) (os : List ℕ) (x : Before) → Stands b us os x → b.last ≡ last.Operand
-    → ((vs : List PatternUnit) (qs : List ℕ) → Stands b vs qs operand → Stands b' (vs ++ (Repeat g ∷ [])) qs sign) → Took b' (Repeat g) p us os x
+    → Takes b (Repeat g) p b' → Took b' (Repeat g) p us os x
 took_sign b b' g p us os x s e f =
-    subst (λ z. Took b' (Repeat g) p us os z) (sym (ap before_of e) ∙ s.last) (os, sign, a_sign, f us os (as_operand b us os x s e))
+    subst (λ z. Took b' (Repeat g) p us os z) (sym (ap before_of e) ∙ s.last) (os, sign, a_sign, f us os operand os sign (as_operand b us os x s e) a_sign)
 
 -- the unit under another name
 pub took_as : (b' : Builder) {u v : PatternUnit} (p : ℕ) (us : List PatternUnit) (os : List ℕ) (x : Before) → u ≡ v → Took b' v p us os x → Took b' u p us os x

@@ -1,10 +1,10 @@
 -- One round of the reading.
-use Rattle.std.proofs.Common.{◌≡◌, ℕ, suc, ◌<◌, ◌≤◌, List, [], ◌∷◌, ◌++◌, length, get_or, take, drop, Some, Ok, Option, sym, refl, ap, ◌∙◌, subst, append_assoc, arith, length-append, length-drop, take-append-drop, length-take-le, take_all}
+use Rattle.std.proofs.Common.{◌≡◌, ℕ, suc, ◌<◌, ◌≤◌, List, [], ◌∷◌, ◌++◌, length, get_or, take, drop, Some, None, Ok, Option, sym, refl, ap, ◌∙◌, subst, append_assoc, arith, length-append, length-drop, take-append-drop, length-take-le, take_all}
 use Rattle.language.proofs.Spelt.{spells_some}
 use Rattle.language.proofs.Trees.{reads_few}
 use Rattle.language.specs.Faults.{Faulty, Goes, Refused, more, no_unit, nothing, refused, start, too_long, Before}
 use Rattle.language.specs.Limits.{most_units}
-use Rattle.rule.specs.Standing.{ReadTo, Stands, Took}
+use Rattle.rule.specs.Standing.{NextWithin, ReadTo, Ready, Stands, Took}
 use Rattle.rule.specs.declared.builder.Builder.{Builder}
 use Rattle.syntax.proofs.Spelled.{split_1}
 use Rattle.syntax.specs.Reading.{Next, Passed}
@@ -73,5 +73,17 @@ pub fault_as : (xs : List ℕ) (n p : ℕ) (f : Fault) → stop_number f.stop �
 fault_as xs n p f e h k = subst (λ z. Faulty xs (stop_number f.stop) z) (sym h) (subst (λ z. Faulty xs z p) (sym e) k)
 
 -- the unit that was read, in the pattern that is read
-pub passes : {ys xs : List ℕ} (p : ℕ) {o : Option Placed} {y : Placed} (p' : ℕ) → ys ≡ xs → o ≡ Some y → Next ys p (Ok o) p' → (y.place ≡ p) × Passed xs p y.unit p'
-passes {ys} p {y = y} p' e f n = subst (λ z. Next z p (Ok (Some y)) p') e (subst (λ z. Next ys p (Ok z) p') f n)
+pub passes : {count : ℕ} {ys xs : List ℕ} (p : ℕ) {o : Option Placed} {y : Placed} (p' : ℕ) → ys ≡ xs → o ≡ Some y → NextWithin count ys p (Ok o) p'
+    → (count ≤ most_units) × ((y.place ≡ p) × Passed xs p y.unit p')
+passes {count} {ys} p {y = y} p' e f n =
+    subst (λ z. (count ≤ most_units) × Next z p (Ok (Some y)) p') e (subst (λ z. NextWithin count ys p (Ok z) p') f n)
+
+-- where no unit was read the pattern is at its end
+pub read_out : (count : ℕ) (ys : List ℕ) (p : ℕ) {o : Option Placed} (p' : ℕ) → o ≡ None → NextWithin count ys p (Ok o) p' → length ys ≤ p
+read_out count ys p p' f n = (subst (λ z. NextWithin count ys p (Ok z) p') f n).0
+
+-- a builder of few units may take one more
+pub readied : {bytes : List ℕ} (b : Builder) → ReadTo bytes b → b.count ≤ most_units → Ready b
+readied b r few =
+    let e = units_count b r.us r.os r.x r.stands in
+    record { us = r.us; os = r.os; x = r.x; stands = r.stands; few = omega arith }

@@ -71,6 +71,12 @@ pub record Ready (b : Builder) : Type 0 where
   pub stands : Stands b us os x
   pub few : length us < most_units
 
+-- a builder b becomes b', which has also taken the unit u, wherever u may stand at a place
+abbrev pub Takes : Builder → PatternUnit → ℕ → Builder → Type 0
+Takes b u place b' =
+    (us : List PatternUnit) (os : List ℕ) (x : Before) (os' : List ℕ) (x' : Before) →
+    Stands b us os x → Goes place u os x os' x' → Stands b' (us ++ (u ∷ [])) os' x'
+
 -- what becomes of a builder that is given the unit u at a place
 abbrev pub Took : Builder → PatternUnit → ℕ → List PatternUnit → List ℕ → Before → Type 0
 Took b' u place us os x = (os' : List ℕ) × (x' : Before) × Goes place u os x os' x' × Stands b' (us ++ (u ∷ [])) os' x'
@@ -81,10 +87,11 @@ Answers p us os x (Ok done) b' = Took b' p.unit p.place us os x
 Answers p us os x (Err f) b' = Refused p.unit os x (stop_number f.stop) × (f.place ≡ p.place)
 
 -- what is answered where a builder of this count asks for the unit at the place p: 1 comes before 2
-abbrev pub NextWithin : ℕ → ℕ → List ℕ → ℕ → Result (Option Placed) Fault → ℕ → Type 0
-NextWithin count place bytes p (Ok o) p' = (count ≤ most_units) × Next bytes p (Ok o) p'
-NextWithin count place bytes p (Err f) p' =
-    ((most_units < count) × (stop_number f.stop ≡ 1) × (f.place ≡ place)) ⊎ ((count ≤ most_units) × Next bytes p (Err f) p')
+abbrev pub NextWithin : ℕ → List ℕ → ℕ → Result (Option Placed) Fault → ℕ → Type 0
+NextWithin count bytes p (Ok None) p' = Next bytes p (Ok None) p'
+NextWithin count bytes p (Ok (Some x)) p' = (count ≤ most_units) × Next bytes p (Ok (Some x)) p'
+NextWithin count bytes p (Err f) p' =
+    ((most_units < count) × (p < length bytes) × (stop_number f.stop ≡ 1) × (f.place ≡ p)) ⊎ ((count ≤ most_units) × Next bytes p (Err f) p')
 
 -- the bytes read without a fault, and the builder stands to their units
 pub record ReadTo (bytes : List ℕ) (b : Builder) : Type 0 where

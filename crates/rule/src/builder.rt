@@ -2,10 +2,9 @@
 
 ghost use Rattle.std.specs.Prelude.{◌≡◌, ℕ, ◌+◌, ◌-◌, ◌%◌, ◌<◌, ◌≤◌, List, [], ◌∷◌, ◌++◌, length, Some, None, Option as Maybe, MatchOption, MatchResult, slice_index};
 ghost use Rattle.language.specs.Answers.{NoFault, OnlyFault};
-ghost use Rattle.language.specs.Faults.{Before, Faulty, operand, sign as after_sign, start};
-ghost use Rattle.rule.specs.Growing.{Sofar};
-ghost use Rattle.rule.specs.Standing.{Answers, LaidDown, NextWithin, OpenedLast, ReadTo, Ready, Room, Stands, Took, loops_back, skip_of};
-ghost use Rattle.rule.specs.Tables.{RuleOf, WordsOf};
+ghost use Rattle.language.specs.Faults.{Before, Faulty, start};
+ghost use Rattle.rule.specs.Standing.{Answers, LaidDown, NextWithin, OpenedLast, ReadTo, Ready, Room, Stands, Takes, loops_back, skip_of};
+ghost use Rattle.rule.specs.Loading.{IsRuleOf};
 ghost use Rattle.rule.specs.Words.{Holds, Position, Says, Under, absent, byte_of, firsts, seconds};
 ghost use Rattle.stops.specs.Stops.{stop_number};
 ghost use Rattle.syntax.specs.declared.PatternUnit.TheVariants.{Bar, Close, Open, Plain, Repeat};
@@ -13,7 +12,7 @@ ghost use Rattle.syntax.specs.declared.PatternUnit.{PatternUnit as Written};
 ghost use Rattle.language.specs.Limits.{most_groups, most_units};
 
 use crate::table::{POSITIONS, Rule};
-use crate::word::{ABSENT, Entry, Kind};
+use crate::word::{ABSENT, Entry, Kind, word_of};
 use crate::{MOST_GROUPS, MOST_UNITS};
 use stops::Stop;
 use syntax::{Fault, Letter, PatternUnit, Placed, Reader, Sign};
@@ -61,23 +60,6 @@ fn byte(unit: PatternUnit) -> u8
         PatternUnit::Plain(Letter::Byte(b)) => b,
         _ => 0,
     }
-}
-
-/// A predecessor as ten bits.
-fn field(predecessor: Option<u16>) -> u32
-    requires { Position predecessor }
-    ensures { Holds result predecessor }
-{
-    predecessor.map_or(ABSENT, u32::from)
-}
-
-/// The word of an entry.
-fn word_of(entry: Entry) -> u32
-    requires { (Position entry.first) × (Position entry.second) }
-    ensures { Says result entry.kind entry.byte entry.first entry.second }
-{
-    let fields = (field(entry.first) << 10) + field(entry.second);
-    (u32::from(entry.kind) << 28) + (u32::from(entry.byte) << 20) + fields
 }
 
 /// The two, the smaller first, an only one first.
@@ -154,12 +136,14 @@ impl Builder {
         Ok(())
     }
 
-    /// The next unit of the pattern. Stop 1, for a byte behind the most units, comes before stop 2.
-    fn next_unit(&self, reader: &mut Reader<'_>, place: usize) -> Result<Option<Placed>, Fault>
+    /// The next unit of the pattern, and nothing at its end. Stop 1, for a byte behind the most units, comes before stop 2.
+    fn next_unit(&self, reader: &mut Reader<'_>) -> Result<Option<Placed>, Fault>
         ensures same { reader.new.pattern.now ≡ reader.old.pattern.now }
-        ensures reads { NextWithin self.now.count place reader.old.pattern.now reader.old.place result reader.new.place }
+        ensures reads { NextWithin self.now.count reader.old.pattern.now reader.old.place result reader.new.place }
     {
-        self.admit(place)?;
+        if let Some(place) = reader.next_place() {
+            self.admit(place)?;
+        }
         reader.next_unit()
     }
 
@@ -175,14 +159,14 @@ impl Builder {
             first,
             second,
         };
-        self.words[self.count as usize] = word_of(entry);
+        self.words[usize::from(self.count)] = word_of(entry);
         self.count += 1;
     }
 
     /// Takes a letter.
     fn letter(&mut self, letter: Letter)
         requires { Ready self.old }
-        ensures { (us : List Written) (os : List ℕ) (x : Before) → Stands self.old us os x → Stands self.new (us ++ (Plain letter ∷ [])) os operand }
+        ensures { (place : ℕ) → Takes self.old (Plain letter) place self.new }
     {
         let position = self.count;
         self.lay(PatternUnit::Plain(letter), None);
@@ -194,7 +178,7 @@ impl Builder {
     /// Takes a `(` at a place.
     fn open_group(&mut self, place: usize)
         requires { (Ready self.old) × (self.old.depth ≤ most_groups) }
-        ensures { (us : List Written) (os : List ℕ) (x : Before) → length os < most_groups → Stands self.old us os x → Stands self.new (us ++ (Open ∷ [])) (place ∷ os) start }
+        ensures { Takes self.old Open place self.new }
     {
         let position = self.count;
         self.lay(PatternUnit::Open, None);
@@ -212,7 +196,7 @@ impl Builder {
     /// Takes a `)`.
     fn close_group(&mut self)
         requires { Ready self.old }
-        ensures { (us : List Written) (o : ℕ) (os : List ℕ) (x : Before) → Stands self.old us (o ∷ os) x → Stands self.new (us ++ (Close ∷ [])) os operand }
+        ensures { (place : ℕ) → Takes self.old Close place self.new }
     {
         let position = self.count;
         let closed = self.groups[self.depth - 1];
@@ -226,7 +210,7 @@ impl Builder {
     /// Takes a `|`.
     fn bar(&mut self)
         requires { Ready self.old }
-        ensures { (us : List Written) (os : List ℕ) (x : Before) → Stands self.old us os x → Stands self.new (us ++ (Bar ∷ [])) os start }
+        ensures { (place : ℕ) → Takes self.old Bar place self.new }
     {
         let position = self.count;
         let group = self.groups[self.depth - 1];
@@ -240,13 +224,13 @@ impl Builder {
     /// Takes a repeat sign behind its operand.
     fn repeat(&mut self, sign: Sign)
         requires { (Ready self.old) × (self.old.last ≡ Last.Operand) }
-        ensures { (us : List Written) (os : List ℕ) → Stands self.old us os operand → Stands self.new (us ++ (Repeat sign ∷ [])) os after_sign }
+        ensures { (place : ℕ) → Takes self.old (Repeat sign) place self.new }
     {
         let position = self.count;
         let start = self.start;
         self.lay(PatternUnit::Repeat(sign), skipped_from(sign, start));
         if leads_back(sign) {
-            self.words[start as usize] = with_last(self.words[start as usize], position);
+            self.words[usize::from(start)] = with_last(self.words[usize::from(start)], position);
         }
         self.front = Some(position);
         self.last = Last::Sign;
@@ -291,7 +275,7 @@ impl Builder {
     /// Adds the CLOSE and the END: the rule of a pattern whose units the builder has taken.
     fn finish(mut self) -> Rule
         requires { ((bytes : List ℕ) × ReadTo bytes self) × (self.depth ≡ 1) }
-        ensures { (bytes : List ℕ) → ReadTo bytes self → RuleOf bytes result.last result.words }
+        ensures { (bytes : List ℕ) → ReadTo bytes self → IsRuleOf bytes result }
     {
         let position = self.count;
         let whole = self.groups[self.depth - 1];
@@ -302,7 +286,7 @@ impl Builder {
             first: Some(position),
             second: None,
         };
-        self.words[self.count as usize] = word_of(end);
+        self.words[usize::from(self.count)] = word_of(end);
         Rule {
             words: self.words,
             last: self.count,
@@ -316,17 +300,15 @@ fn read_units(pattern: &[u8]) -> Result<Builder, Fault>
 {
     let mut reader = Reader::new(pattern);
     let mut builder = Builder::new();
-    while let Some(place) = reader.next_place() {
-        if let Some(placed) = builder.next_unit(&mut reader, place)? {
-            builder.take(placed)?;
-        }
+    while let Some(placed) = builder.next_unit(&mut reader)? {
+        builder.take(placed)?;
     }
     Ok(builder)
 }
 
 /// The rule of the empty pattern.
 pub fn empty_rule() -> Rule
-    ensures { RuleOf [] result.last result.words }
+    ensures { IsRuleOf [] result }
 {
     let builder = Builder::new();
     builder.finish()
@@ -334,7 +316,7 @@ pub fn empty_rule() -> Rule
 
 /// Reads a pattern: its rule, or its one fault.
 pub fn read(pattern: &[u8]) -> Result<Rule, Fault>
-    ensures answers { MatchResult result (λ rule. RuleOf pattern.now rule.last rule.words) (λ f. Faulty pattern.now (stop_number f.stop) f.place) }
+    ensures answers { MatchResult result (λ rule. IsRuleOf pattern.now rule) (λ f. Faulty pattern.now (stop_number f.stop) f.place) }
     ensures exactly { MatchResult result (λ _. NoFault pattern.now) (λ f. OnlyFault pattern.now (stop_number f.stop) f.place) }
 {
     let builder = read_units(pattern)?;

@@ -34,10 +34,7 @@ impl Rule {
     pub fn word(&self, position: u16) -> Option<u32>
         ensures { MatchOption result (NoWord self.now position) (λ w. (position ≤ self.now.last) × (w ≡ slice_index self.now.words position)) }
     {
-        if position > self.last {
-            return None;
-        }
-        Some(self.words[position as usize])
+        (position <= self.last).then(|| self.words[usize::from(position)])
     }
 
     /// The word of a position taken apart; none past the last one.
@@ -52,7 +49,7 @@ impl Rule {
         ensures { (result.0 ≡ first_of self.now.words position) × (result.1 ≡ second_of self.now.words position) }
     {
         self.words
-            .get(position as usize)
+            .get(usize::from(position))
             .map_or((None, None), |word| predecessors(*word))
     }
 
@@ -61,7 +58,7 @@ impl Rule {
         ensures { result ≡ takes_at self.now.words byte position }
     {
         self.words
-            .get(position as usize)
+            .get(usize::from(position))
             .is_some_and(|word| takes(*word, byte))
     }
 }

@@ -1,7 +1,7 @@
 //! The words of the rule table: what a position is, and which positions link to it.
 
 ghost use Rattle.std.specs.Prelude.{◌≡◌, ◌/◌, ◌%◌, ◌<◌};
-ghost use Rattle.rule.specs.Words.{Holds, Numbered, TakenApart, first_in, kind_number, kind_of, position_in, second_in, word_takes};
+ghost use Rattle.rule.specs.Words.{Holds, Numbered, Position, Says, TakenApart, first_in, kind_number, kind_of, position_in, second_in, word_takes};
 
 use std::error::Error;
 use std::fmt;
@@ -146,6 +146,23 @@ pub(crate) fn takes(word: u32, byte: u8) -> bool
         Ok(Kind::Any) => true,
         _ => false,
     }
+}
+
+/// A predecessor as ten bits.
+fn field(predecessor: Option<u16>) -> u32
+    requires { Position predecessor }
+    ensures { Holds result predecessor }
+{
+    predecessor.map_or(ABSENT, u32::from)
+}
+
+/// The word of an entry.
+pub(crate) fn word_of(entry: Entry) -> u32
+    requires { (Position entry.first) × (Position entry.second) }
+    ensures { Says result entry.kind entry.byte entry.first entry.second }
+{
+    let fields = (field(entry.first) << 10) + field(entry.second);
+    (u32::from(entry.kind) << 28) + (u32::from(entry.byte) << 20) + fields
 }
 
 impl TryFrom<u32> for Entry {

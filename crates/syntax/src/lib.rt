@@ -95,7 +95,7 @@ fn lone(b: u8) -> Option<PatternUnit>
     }
 }
 
-/// The byte of the escape that begins the bytes, and what follows the escape.
+/// The unit of the escape that begins the bytes, and what follows the escape.
 fn escape(bytes: &[u8]) -> Option<(PatternUnit, &[u8])>
     ensures { MatchOption result ((rest : List ℕ) → bytes.now ≡ 92 ∷ rest → Escapes rest → ⊥) (λ x. Begins bytes.now x.0 x.1.now) }
 {

@@ -14,11 +14,11 @@ lay-requires c =
 pub returns : goal.returns
 returns c bytes r =
     let b = c.args.self in
-    ruled bytes b r _ _ c.requires.1 (finished b c.lay.new.self c.word_of.result c.lay.ensures c.word_of.ensures (few_units bytes b r))
+    rw c.from.ensures (ruled bytes b r _ _ c.requires.1 (finished b c.lay.new.self c.word_of.result c.lay.ensures c.word_of.ensures (few_units bytes b r)))
 
 pub invariant_of-result : goal.invariant_of-result
 invariant_of-result c =
     let b = c.args.self in
     let (bytes, r) = c.requires.0 in
     let rule = ruled bytes b r _ _ c.requires.1 (finished b c.lay.new.self c.word_of.result c.lay.ensures c.word_of.ensures (few_units bytes b r)) in
-    record { ruled = ∣ (bytes, rule) ∣₁; fits = ends_inside rule }
+    record { ruled = rw c.from.ensures (∣ (bytes, rule) ∣₁); fits = ends_inside rule }
