@@ -4,6 +4,10 @@ use Rattle.board.specs.Boards.{most_cells}
 use Rattle.std.specs.Borrow.{MutBor}
 use Rattle.std.proofs.Common.{length-take, ◌∙◌, arith}
 
+-- b is the reference a: it lends the same place, which holds what it held
+abbrev pub SameLoan : {T : Type 0} → MutBor T → MutBor T → Type 0
+SameLoan b a = (b.ghost_name ≡ a.ghost_name) × (b.now ≡ a.now)
+
 -- b is the reference a at a later time: it lends the same slice, which past the cells holds what it held
 pub record Lent {M : Type 0} (a b : MutBor (List M)) : Type 0 where
   pub same_slice : b.ghost_name ≡ a.ghost_name

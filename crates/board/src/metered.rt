@@ -1,7 +1,7 @@
 //! A board over a lent slice of marks.
 
 ghost use Rattle.board.specs.Boards.{most_cells};
-ghost use Rattle.board.specs.Lent.{lent_small};
+ghost use Rattle.board.specs.Lent.{SameLoan, lent_small};
 ghost use Rattle.board.specs.Meters.{Admits, metered, touch_of};
 ghost use Rattle.std.specs.Prelude.{length, min, take};
 
@@ -17,6 +17,20 @@ pub struct Metered<'a, M, W, G> {
     pub(crate) marks: &'a mut [M],
     pub(crate) memory: W,
     pub(crate) meter: G,
+}
+
+impl<'a, M: Mark, G: Meter<()> + Default> Metered<'a, M, (), G> {
+    /// A board that has made no touch.
+    pub fn new(marks: &'a mut [M]) -> Metered<'a, M, (), G>
+        ensures marks { SameLoan result.marks marks.entry }
+        ensures meter { G.is_default result.meter }
+    {
+        Metered {
+            marks,
+            memory: (),
+            meter: G::default(),
+        }
+    }
 }
 
 /// Where the cell of a touch lies in a slice of marks of this length, when the meter has counted the touch. Stop 18 where

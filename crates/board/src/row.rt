@@ -2,10 +2,8 @@
 
 ghost use Rattle.board.specs.Makes.{Rows, rows};
 ghost use Rattle.board.specs.Meters.{nothing_lent};
-ghost use Rattle.std.specs.Prelude.{◌≡◌, None};
 
 use crate::{Meter, Metered, Touch};
-use mark::Mark;
 use stops::Stop;
 
 /// So many cells are a row.
@@ -13,7 +11,7 @@ const CELLS_IN_ROW: u64 = 16;
 
 /// Counts the rows that are opened, modulo 2^64: a touch opens its row unless the touch before was in that row. It allows
 /// as many touches as one likes.
-#[derive(Drop)]
+#[derive(Default, Drop)]
 pub struct RowMeter {
     last: Option<u64>,
     opened: u64,
@@ -21,22 +19,6 @@ pub struct RowMeter {
 
 /// A board over a lent slice of marks that counts the rows that it opens.
 pub type Row<'a, M> = Metered<'a, M, (), RowMeter>;
-
-impl<'a, M: Mark> Row<'a, M> {
-    /// A board that has opened no row.
-    pub fn new(marks: &'a mut [M]) -> Row<'a, M>
-        ensures { (result.marks.ghost_name ≡ marks.entry.ghost_name) × (result.marks.now ≡ marks.old) × (result.meter.last ≡ None) × (result.meter.opened ≡ 0) }
-    {
-        Metered {
-            marks,
-            memory: (),
-            meter: RowMeter {
-                last: None,
-                opened: 0,
-            },
-        }
-    }
-}
 
 impl Meter<()> for RowMeter {
     ghost Gauge = { Rows };

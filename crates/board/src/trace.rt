@@ -1,5 +1,6 @@
 //! The trace board.
 
+ghost use Rattle.board.specs.Lent.{SameLoan};
 ghost use Rattle.board.specs.Makes.{Words, tracing};
 ghost use Rattle.board.specs.Traced.{words_kept};
 ghost use Rattle.std.specs.Prelude.{◌≡◌, ◌-◌, length, take};
@@ -20,8 +21,8 @@ pub type Trace<'a, M> = Metered<'a, M, &'a mut [u32], WordMeter>;
 impl<'a, M: Mark> Trace<'a, M> {
     /// A board that has written no word.
     pub fn new(marks: &'a mut [M], words: &'a mut [u32]) -> Trace<'a, M>
-        ensures marks { (result.marks.ghost_name ≡ marks.entry.ghost_name) × (result.marks.now ≡ marks.old) }
-        ensures words { (result.memory.ghost_name ≡ words.entry.ghost_name) × (result.memory.now ≡ words.old) }
+        ensures marks { SameLoan result.marks marks.entry }
+        ensures words { SameLoan result.memory words.entry }
         ensures used { result.meter.used ≡ 0 }
     {
         Metered {

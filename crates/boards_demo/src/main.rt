@@ -39,89 +39,99 @@ fn wipe<M: Mark>(marks: &mut [M]) {
     }
 }
 
-/// Prints each of the accesses on a new board with what it answers, and the reading after it.
-fn show_accesses<B: Board>(
-    rt: &HostRuntime,
-    name: &str,
-    board: &mut B,
-    accesses: &[Access<B::M>],
-) -> io::Result<()> {
-    println!(rt;
-        " {name}: {} cells, allowance {}",
-        board.size(),
-        board.allowance()
-    )?;
-    for access in accesses {
-        match access {
-            Access::Read(cell) => print!(rt; "  read {cell}: ")?,
-            Access::Write(cell, mark) => print!(rt; "  write {} to {cell}: ", mark.code())?,
+/// Accesses to show on boards of each make.
+#[derive(Clone, Copy)]
+struct Demo<'a, M> {
+    rt: &'a HostRuntime,
+    accesses: &'a [Access<M>],
+}
+
+impl<'a, M: Mark> Demo<'a, M> {
+    /// Prints each of the accesses on a new board with what it answers, and the reading after it.
+    fn show_accesses<B: Board<M = M>>(&self, name: &str, board: &mut B) -> io::Result<()> {
+        println!(self.rt;
+            " {name}: {} cells, allowance {}",
+            board.size(),
+            board.allowance()
+        )?;
+        for access in self.accesses {
+            match access {
+                Access::Read(cell) => print!(self.rt; "  read {cell}: ")?,
+                Access::Write(cell, mark) => print!(self.rt;
+                    "  write {} to {cell}: ",
+                    mark.code()
+                )?,
+            }
+            match touch(board, *access) {
+                Ok(mark) => print!(self.rt; "mark {}", mark.code())?,
+                Err(stop) => print!(self.rt; "stop {}, {stop}", stop.number())?,
+            }
+            println!(self.rt; "; reading {}", board.reading())?;
         }
-        match touch(board, *access) {
-            Ok(mark) => print!(rt; "mark {}", mark.code())?,
-            Err(stop) => print!(rt; "stop {}, {stop}", stop.number())?,
+        Ok(())
+    }
+
+    /// Prints the last reading and the marks.
+    fn show_left(&self, reading: u64, marks: &[M]) -> io::Result<()> {
+        print!(self.rt; "  left: reading {reading}, marks")?;
+        for mark in marks {
+            print!(self.rt; " {}", mark.code())?;
         }
-        println!(rt; "; reading {}", board.reading())?;
+        println!(self.rt; "")
     }
-    Ok(())
-}
 
-/// Prints the last reading and the marks.
-fn show_left<M: Mark>(rt: &HostRuntime, reading: u64, marks: &[M]) -> io::Result<()> {
-    print!(rt; "  left: reading {reading}, marks")?;
-    for mark in marks {
-        print!(rt; " {}", mark.code())?;
+    /// Prints the accesses on a board of one make, and then what driving another leaves in the marks.
+    fn show_make<S, D>(&self, marks: &mut [M], show: S, drive: D) -> io::Result<()>
+    where
+        S: FnOnce(&mut [M]) -> io::Result<()>,
+        D: FnOnce(&mut [M]) -> u64,
+        requires shows { S.IsAlwaysCallable show }
+        requires drives { D.IsAlwaysCallable drive }
+    {
+        wipe(marks);
+        show(marks)?;
+        wipe(marks);
+        let reading = drive(marks);
+        self.show_left(reading, marks)
     }
-    println!(rt; "")
-}
 
-/// Prints a counting board and a row board over the marks.
-fn show_counters<M: Mark>(
-    rt: &HostRuntime,
-    marks: &mut [M],
-    accesses: &[Access<M>],
-) -> io::Result<()> {
-    wipe(marks);
-    show_accesses(rt, "counting", &mut Counting::new(marks), accesses)?;
-    wipe(marks);
-    show_left(rt, drive_counting(marks, accesses), marks)?;
-    wipe(marks);
-    show_accesses(rt, "row", &mut Row::new(marks), accesses)?;
-    wipe(marks);
-    show_left(rt, drive_row(marks, accesses), marks)
-}
-
-/// Prints a trace board over the marks, and its words.
-fn show_trace<M: Mark>(
-    rt: &HostRuntime,
-    marks: &mut [M],
-    accesses: &[Access<M>],
-) -> io::Result<()> {
-    wipe(marks);
-    let mut words = [UNUSED; WORDS];
-    show_accesses(rt, "trace", &mut Trace::new(marks, &mut words), accesses)?;
-    wipe(marks);
-    let mut words = [UNUSED; WORDS];
-    show_left(rt, drive_trace(marks, &mut words, accesses), marks)?;
-    print!(rt; "  words:")?;
-    for word in words {
-        print!(rt; " {word:08X}")?;
+    /// Prints a board of each make, and the words of the trace board.
+    fn show(&self, kind: &str, marks: &mut [M]) -> io::Result<()> {
+        println!(self.rt; "{kind}")?;
+        self.show_make(
+            marks,
+            |marks| self.show_accesses("counting", &mut Counting::new(marks)),
+            |marks| drive_counting(marks, self.accesses),
+        )?;
+        self.show_make(
+            marks,
+            |marks| self.show_accesses("row", &mut Row::new(marks)),
+            |marks| drive_row(marks, self.accesses),
+        )?;
+        let mut words = [UNUSED; WORDS];
+        self.show_make(
+            marks,
+            |marks| self.show_accesses("trace", &mut Trace::new(marks, &mut [UNUSED; WORDS])),
+            |marks| drive_trace(marks, &mut words, self.accesses),
+        )?;
+        print!(self.rt; "  words:")?;
+        for word in words {
+            print!(self.rt; " {word:08X}")?;
+        }
+        println!(self.rt; "")
     }
-    println!(rt; "")
-}
-
-/// Prints all three boards for one kind of mark.
-fn show_kind<M: Mark>(
-    rt: &HostRuntime,
-    name: &str,
-    marks: &mut [M],
-    accesses: &[Access<M>],
-) -> io::Result<()> {
-    println!(rt; "{name}")?;
-    show_counters(rt, marks, accesses)?;
-    show_trace(rt, marks, accesses)
 }
 
 fn main(rt: HostRuntime) -> io::Result<()> {
-    show_kind(&rt, "yes/no", &mut [YesNo::nothing(); CELLS], &accesses())?;
-    show_kind(&rt, "tail", &mut [Tail::nothing(); CELLS], &accesses())
+    let rt = &rt;
+    Demo {
+        rt,
+        accesses: &accesses::<YesNo>(),
+    }
+    .show("yes/no", &mut [YesNo::nothing(); CELLS])?;
+    Demo {
+        rt,
+        accesses: &accesses::<Tail>(),
+    }
+    .show("tail", &mut [Tail::nothing(); CELLS])
 }

@@ -1,6 +1,7 @@
 -- What accesses leave on a board.
-use Rattle.std.specs.Prelude.{◌≡◌, ℕ, Bool, cond, ◌&&◌, List, [], ◌∷◌, length, take, None, Ok, Err, Result, nat_lt, slice_set}
+use Rattle.std.specs.Prelude.{◌≡◌, ℕ, Bool, cond, ◌&&◌, List, [], ◌∷◌, length, ◌++◌, take, drop, None, Ok, Err, Result, nat_lt, slice_set}
 use Rattle.board.specs.Boards.{Make, Reads, Touch, Writes, most_cells, read, write}
+use Rattle.board.specs.declared.Board.{Ghosts}
 use Rattle.board.specs.Makes.{Rows, Words, counting, rows, tracing}
 use Rattle.drive.specs.declared.Access.TheVariants.{Read, Write}
 use Rattle.drive.specs.declared.Access.{Access}
@@ -38,6 +39,19 @@ module _ {M X : Type 0} (make : Make X) where
     Touches (Read i) cells' meter' r = Reads make cells meter i cells' meter' r
     Touches (Write i m) cells' meter' (Ok x) = (x ≡ m) × Writes make cells meter i m cells' meter' (Ok tt)
     Touches (Write i m) cells' meter' (Err s) = Writes make cells meter i m cells' meter' (Err s)
+
+-- what a board is by its make
+abbrev pub state_of : {B M : Type 0} (board : Ghosts B M) → B → State M board.Gauge
+state_of board b = state (board.cells b) (board.meter b)
+
+-- the accesses take a board from one to the next, which keeps what its make keeps
+pub record Driven {B M : Type 0} (board : Ghosts B M) (old new : B) (accesses : List (Access M)) : Type 0 where
+  pub kept : board.keeps.same old new
+  pub done : state_of board new ≡ after board.make (state_of board old) accesses
+
+-- what a board in this state leaves in the slice of marks that it was lent
+abbrev pub left_in : {M X : Type 0} → List M → State M X → List M
+left_in marks s = s.cells ++ drop most_cells marks
 
 -- a new board of each make over a slice of marks, after accesses
 abbrev pub counted : {M : Type 0} → List M → List (Access M) → State M ℕ

@@ -2,8 +2,7 @@
 
 #![tactic(auto)]
 
-ghost use Rattle.board.specs.Boards.{most_cells};
-ghost use Rattle.drive.specs.Drives.{Touches, after, counted, rowed, state, traced};
+ghost use Rattle.drive.specs.Drives.{Driven, Touches, counted, left_in, rowed, traced};
 ghost use Rattle.std.specs.Prelude.{◌≡◌, ◌++◌, length, drop};
 
 use board::{Board, Counting, Row, Trace};
@@ -35,8 +34,7 @@ pub fn touch<B: Board>(board: &mut B, access: Access<B::M>) -> Result<B::M, Stop
 
 /// Makes accesses in their order. A refused one changes nothing and is passed over.
 pub fn drive<B: Board>(board: &mut B, accesses: &[Access<B::M>])
-    ensures kept { B.keeps.same board.old board.new }
-    ensures done { state (B.cells board.new) (B.meter board.new) ≡ after B.make (state (B.cells board.old) (B.meter board.old)) accesses.now }
+    ensures { Driven B.Board board.old board.new accesses.now }
 {
     for access in accesses {
         let _ = touch(board, *access);
@@ -45,8 +43,7 @@ pub fn drive<B: Board>(board: &mut B, accesses: &[Access<B::M>])
 
 /// Makes accesses on a board, and answers its last reading.
 fn last_reading<B: Board>(board: &mut B, accesses: &[Access<B::M>]) -> u64
-    ensures kept { B.keeps.same board.old board.new }
-    ensures done { state (B.cells board.new) (B.meter board.new) ≡ after B.make (state (B.cells board.old) (B.meter board.old)) accesses.now }
+    ensures driven { Driven B.Board board.old board.new accesses.now }
     ensures reading { result ≡ B.make.shows (length (B.cells board.new)) (B.meter board.new) }
 {
     drive(board, accesses);
@@ -55,7 +52,7 @@ fn last_reading<B: Board>(board: &mut B, accesses: &[Access<B::M>]) -> u64
 
 /// Makes accesses on a new counting board over the marks, and answers its last reading.
 pub fn drive_counting<M: Mark>(marks: &mut [M], accesses: &[Access<M>]) -> u64
-    ensures marks { marks.new ≡ (counted marks.old accesses.now).cells ++ drop most_cells marks.old }
+    ensures marks { marks.new ≡ left_in marks.old (counted marks.old accesses.now) }
     ensures reading { result ≡ (counted marks.old accesses.now).meter }
 {
     let mut board = Counting::new(marks);
@@ -64,7 +61,7 @@ pub fn drive_counting<M: Mark>(marks: &mut [M], accesses: &[Access<M>]) -> u64
 
 /// Makes accesses on a new row board over the marks, and answers its last reading.
 pub fn drive_row<M: Mark>(marks: &mut [M], accesses: &[Access<M>]) -> u64
-    ensures marks { marks.new ≡ (rowed marks.old accesses.now).cells ++ drop most_cells marks.old }
+    ensures marks { marks.new ≡ left_in marks.old (rowed marks.old accesses.now) }
     ensures reading { result ≡ (rowed marks.old accesses.now).meter.opened }
 {
     let mut board = Row::new(marks);
@@ -73,7 +70,7 @@ pub fn drive_row<M: Mark>(marks: &mut [M], accesses: &[Access<M>]) -> u64
 
 /// Makes accesses on a new trace board over the marks and the words, and answers its last reading.
 pub fn drive_trace<M: Mark>(marks: &mut [M], words: &mut [u32], accesses: &[Access<M>]) -> u64
-    ensures marks { marks.new ≡ (traced marks.old (length words.old) accesses.now).cells ++ drop most_cells marks.old }
+    ensures marks { marks.new ≡ left_in marks.old (traced marks.old (length words.old) accesses.now) }
     ensures words { words.new ≡ (traced marks.old (length words.old) accesses.now).meter.written ++ drop result words.old }
     ensures reading { result ≡ length (traced marks.old (length words.old) accesses.now).meter.written }
 {

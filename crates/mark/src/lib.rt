@@ -11,7 +11,7 @@ mod yes_no;
 ghost use Rattle.mark.specs.Marks.{Kind};
 ghost use Rattle.std.specs.Prelude.{◌≡◌};
 
-pub use start::{MOST_BYTES, Start};
+pub use start::{MOST_BYTES, PastTheEnd, Start};
 pub use tail::Tail;
 pub use yes_no::YesNo;
 

@@ -2,7 +2,7 @@
 
 ghost use Rattle.mark.specs.Tail.{tail};
 
-use crate::{MOST_BYTES, Mark, Start};
+use crate::{Mark, Start};
 
 /// Nothing, or a start.
 pub type Tail = Option<Start>;
@@ -22,16 +22,10 @@ impl Mark for Tail {
     }
 
     fn seed(place: u64) -> Tail {
-        match u16::try_from(place) {
-            Ok(place) if place <= MOST_BYTES => Some(Start { place }),
-            _ => None,
-        }
+        Start::try_from(place).ok()
     }
 
     fn code(self) -> u16 {
-        match self {
-            None => 65535,
-            Some(start) => start.place,
-        }
+        self.map_or(65535, Start::place)
     }
 }

@@ -5,10 +5,10 @@ ghost use Rattle.mark.specs.YesNo.{yes_no};
 use crate::Mark;
 
 /// Nothing, or yes.
-#[derive(Clone, Copy, Debug, PartialEq, Eq)]
+#[derive(Clone, Copy, Debug, PartialEq, Eq, PartialOrd, Ord)]
 pub enum YesNo {
-    Nothing,
-    Yes,
+    Nothing = 0,
+    Yes = 1,
 }
 
 impl Mark for YesNo {
@@ -19,10 +19,7 @@ impl Mark for YesNo {
     }
 
     fn join(self, other: YesNo) -> YesNo {
-        match self {
-            YesNo::Yes => YesNo::Yes,
-            YesNo::Nothing => other,
-        }
+        self.max(other)
     }
 
     fn seed(place: u64) -> YesNo {
@@ -34,9 +31,6 @@ impl Mark for YesNo {
     }
 
     fn code(self) -> u16 {
-        match self {
-            YesNo::Nothing => 0,
-            YesNo::Yes => 1,
-        }
+        self as u16
     }
 }

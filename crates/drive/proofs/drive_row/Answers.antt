@@ -7,8 +7,8 @@ pub returns : goal.returns
 returns g c =
     let new = c.new-board.ensures in
     let run = c.last_reading.ensures in
-    let done = begun rows _ _ c.args.accesses.now new.1 (λ j. record { last = new.2 j; opened = new.3 j }) run.done in
+    let done = begun rows _ _ c.args.accesses.now new.marks.1 (λ j. record { last = new.meter.0 j; opened = new.meter.1 j }) run.driven.done in
     record {
-      marks = marks_left c.args.marks.now _ _ run.kept.0 new.1 (search rules) (ap (λ s. s.cells) done);
+      marks = marks_left c.args.marks.now _ _ run.driven.kept.0 new.marks.1 (search rules) (ap (λ s. s.cells) done);
       reading = run.reading ∙ ap (λ s. s.meter.opened) done;
     }

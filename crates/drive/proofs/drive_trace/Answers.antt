@@ -9,9 +9,9 @@ returns g c =
     let run = c.last_reading.ensures in
     let board = c.new-board.result in
     let free : length board.memory.now - board.meter.used ≡ length c.args.words.now = omega (arith, ap length new.words.1, new.used) in
-    let done = begun tracing _ _ c.args.accesses.now new.marks.1 (λ j. record { written = take (new.used j) (new.words.1 j); free = free j }) run.done in
+    let done = begun tracing _ _ c.args.accesses.now new.marks.1 (λ j. record { written = take (new.used j) (new.words.1 j); free = free j }) run.driven.done in
     record {
-      marks = marks_left c.args.marks.now _ _ run.kept.0 new.marks.1 (search rules) (ap (λ s. s.cells) done);
-      words = words_left c.args.words.now _ _ run.kept.1 new.words.1 (search rules) (ap (λ s. s.meter.written) done) run.reading;
+      marks = marks_left c.args.marks.now _ _ run.driven.kept.0 new.marks.1 (search rules) (ap (λ s. s.cells) done);
+      words = words_left c.args.words.now _ _ run.driven.kept.1 new.words.1 (search rules) (ap (λ s. s.meter.written) done) run.reading;
       reading = run.reading ∙ ap (λ s. length s.meter.written) done;
     }
