@@ -9,7 +9,7 @@ mod show;
 
 use board::Counting;
 use calls::Screen;
-use command::Command;
+use command::{Command, KNOWN};
 use lines::{Escaped, Kept, Table, Units};
 use mark::YesNo;
 use rule::read;
@@ -106,7 +106,7 @@ impl Console<'_, '_, '_> {
                 println!(self.rt; "{}", Escaped(line))?;
                 self.run(command)
             }
-            Err(unknown) => println!(self.rt; "{unknown}"),
+            Err(unknown) => println!(self.rt; "{unknown}\n{KNOWN}"),
         }
     }
 }
