@@ -5,6 +5,7 @@
 
 mod call;
 mod frame;
+mod show;
 
 ghost use Rattle.std.specs.Prelude.{◌≡◌, ◌≤◌, length, None};
 ghost use Rattle.conduct.specs.Calls.{number, to_begin, to_drop, to_feed, to_finish, to_load, to_meter, verdict};
@@ -143,10 +144,7 @@ impl<'b, B: Board> Screen<'b, B> {
         let rule = read(pattern)?;
         let last = rule.last();
         if u64::from(last) >= self.board.size() {
-            return Err(Fault {
-                stop: Stop::TooWide,
-                place: pattern.len(),
-            });
+            return Err(Fault::at(Stop::TooWide, pattern.len()));
         }
         self.state = State::Ready(rule);
         Ok(last)

@@ -3,8 +3,8 @@ use Rattle.std.specs.Prelude.{◌≡◌, ℕ, ◌⊎◌, List, [], codes, None, 
 use Rattle.calls_console.specs.Numbers.{Decimal}
 use Rattle.calls_console.specs.declared.command.Command.TheVariants.{Begin, Drop, Feed, Finish, Load, Meter}
 use Rattle.calls_console.specs.declared.command.Command.{Command}
-use Rattle.calls_console.specs.declared.command.Unknown.{Unknown}
 use Rattle.lines.specs.Lines.{Blank, Comment, Divides}
+use Rattle.lines.specs.declared.parts.Unknown.{Unknown}
 
 -- a renter's number, a space and the number of a frame's bytes
 pub record OfFrame (rest : List ℕ) (renter bytes : ℕ) : Type 0 where

@@ -4,9 +4,7 @@ ghost use Rattle.std.specs.Prelude.{ℕ, List, MatchOption};
 ghost use Rattle.calls_console.specs.Lines.{Means, OfFrame, OfText, Reads};
 
 use crate::number::{number, renter_number};
-use lines::{Escaped, Parts, is_blank, is_comment};
-use std::error::Error;
-use std::fmt;
+use lines::{Parts, Unknown};
 
 /// What the console can be asked for.
 #[derive(Clone, Copy, Debug, PartialEq, Eq)]
@@ -25,26 +23,10 @@ pub enum Command<'a> {
     Meter,
 }
 
-/// A line that asks for what the console does not know.
-#[derive(Clone, Copy, Debug, PartialEq, Eq)]
-pub struct Unknown<'a> {
-    pub line: &'a [u8],
-}
-
-/// The line, and what is known.
-impl fmt::Display for Unknown<'_> {
-    fn fmt<W: fmt::Write>(&self, f: &mut fmt::Formatter<W>) -> fmt::Result {
-        let line = Escaped(self.line);
-        writeln!(f, "unknown command: {line}")?;
-        writeln!(
-            f,
-            "  known are: load PATTERN, begin RENTER LENGTH, feed RENTER TEXT, finish RENTER, drop RENTER, meter,"
-        )?;
-        f.write_str("  and lines that are blank or begin with #")
-    }
-}
-
-impl Error for Unknown<'_> {}
+/// The lines that the console knows, as it prints them below one that it does not know.
+pub const KNOWN: &str =
+    "  known are: load PATTERN, begin RENTER LENGTH, feed RENTER TEXT, finish RENTER, drop RENTER, meter,
+  and lines that are blank or begin with #";
 
 /// Reads `RENTER LENGTH`.
 fn frame(rest: &[u8]) -> Option<(u8, u64)>
@@ -94,10 +76,10 @@ impl<'a> Command<'a> {
     pub fn of_line(line: &'a [u8]) -> Result<Option<Command<'a>>, Unknown<'a>>
         ensures { Means line.now result }
     {
-        if is_blank(line) || is_comment(line) {
+        let Some(parts) = Parts::of_command(line) else {
             return Ok(None);
-        }
-        match asked(Parts::of(line)) {
+        };
+        match asked(parts) {
             Some(command) => Ok(Some(command)),
             None => Err(Unknown { line }),
         }

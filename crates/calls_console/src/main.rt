@@ -9,7 +9,7 @@ mod show;
 
 use board::Counting;
 use calls::Screen;
-use command::Command;
+use command::{Command, KNOWN};
 use lines::{Escaped, Kept, Table, Units};
 use mark::YesNo;
 use rule::read;
@@ -66,9 +66,10 @@ impl Console<'_, '_, '_> {
             return println!(self.rt; "  no byte to feed; meter {}", self.screen.meter());
         }
         for byte in text {
-            let told = Told(self.screen.feed(renter, *byte).map(Answer::Fed));
+            let answer = self.screen.feed(renter, *byte).map(Answer::Fed);
+            let told = Told(answer);
             println!(self.rt; "  byte {byte:02X}: {told}; meter {}", self.screen.meter())?;
-            if told.0.is_err() {
+            if answer.is_err() {
                 break;
             }
         }
@@ -106,7 +107,7 @@ impl Console<'_, '_, '_> {
                 println!(self.rt; "{}", Escaped(line))?;
                 self.run(command)
             }
-            Err(unknown) => println!(self.rt; "{unknown}"),
+            Err(unknown) => println!(self.rt; "{unknown}\n{KNOWN}"),
         }
     }
 }

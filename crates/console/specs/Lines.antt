@@ -2,8 +2,8 @@
 use Rattle.std.specs.Prelude.{◌≡◌, ℕ, ◌⊎◌, List, codes, None, Some, Ok, Err, Option, Result}
 use Rattle.console.specs.declared.command.Command.TheVariants.{Load}
 use Rattle.console.specs.declared.command.Command.{Command}
-use Rattle.console.specs.declared.command.Unknown.{Unknown}
 use Rattle.lines.specs.Lines.{Blank, Comment, Divides}
+use Rattle.lines.specs.declared.parts.Unknown.{Unknown}
 
 abbrev pub Means : List ℕ → Result (Option Command) Unknown → Type 0
 Means line (Ok None) = Blank line ⊎ Comment line

@@ -4,7 +4,7 @@
 
 mod command;
 
-use command::Command;
+use command::{Command, KNOWN};
 use lines::{Escaped, Kept, Table, Units};
 use rule::{Rule, load};
 use std::io;
@@ -47,7 +47,7 @@ impl Console<'_> {
         match Command::of_line(line) {
             Ok(None) => Ok(()),
             Ok(Some(Command::Load(pattern))) => self.load(pattern),
-            Err(unknown) => println!(self.rt; "{unknown}"),
+            Err(unknown) => println!(self.rt; "{unknown}\n{KNOWN}"),
         }
     }
 }

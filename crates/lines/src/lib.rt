@@ -5,5 +5,5 @@
 mod parts;
 mod show;
 
-pub use parts::{Parts, is_blank, is_comment};
+pub use parts::{Parts, Unknown, is_blank, is_comment};
 pub use show::{Escaped, Kept, Table, Units};

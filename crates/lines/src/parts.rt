@@ -1,7 +1,11 @@
 //! Lines taken apart.
 
-ghost use Rattle.std.specs.Prelude.{MatchBool};
+ghost use Rattle.std.specs.Prelude.{◌⊎◌, MatchBool, MatchOption};
 ghost use Rattle.lines.specs.Lines.{Blank, Comment, Divides};
+
+use crate::show::Escaped;
+use std::error::Error;
+use std::fmt;
 
 /// Whether a line has nothing but spaces.
 pub fn is_blank(line: &[u8]) -> bool
@@ -40,4 +44,29 @@ impl<'a> Parts<'a> {
             },
         }
     }
+
+    /// The parts of a line that asks for something; none where it is blank or a comment.
+    pub fn of_command(line: &'a [u8]) -> Option<Parts<'a>>
+        ensures { MatchOption result (Blank line.now ⊎ Comment line.now) (λ parts. (Blank line.now → ⊥) × (Comment line.now → ⊥) × Divides line.now parts.word.now parts.rest.now) }
+    {
+        if is_blank(line) || is_comment(line) {
+            return None;
+        }
+        Some(Parts::of(line))
+    }
 }
+
+/// A line that asks for what a program does not know.
+#[derive(Clone, Copy, Debug, PartialEq, Eq)]
+pub struct Unknown<'a> {
+    pub line: &'a [u8],
+}
+
+impl fmt::Display for Unknown<'_> {
+    fn fmt<W: fmt::Write>(&self, f: &mut fmt::Formatter<W>) -> fmt::Result {
+        let line = Escaped(self.line);
+        write!(f, "unknown command: {line}")
+    }
+}
+
+impl Error for Unknown<'_> {}

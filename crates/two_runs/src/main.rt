@@ -52,7 +52,7 @@ fn calls_with<'a>(pattern: &'a [u8], payload: [u8; 3]) -> [Call<'a>; CALLS] {
 }
 
 /// A call, printed without the byte that it feeds.
-#[derive(Drop)]
+#[derive(Clone, Copy)]
 struct Asked<'a>(Call<'a>);
 
 impl fmt::Display for Asked<'_> {
@@ -69,7 +69,7 @@ impl fmt::Display for Asked<'_> {
 }
 
 /// What a call was told, as it is printed.
-#[derive(Drop)]
+#[derive(Clone, Copy)]
 struct Heard(Told<YesNo>);
 
 impl fmt::Display for Heard {
@@ -77,10 +77,7 @@ impl fmt::Display for Heard {
         match self.0 {
             Ok(Answer::Number(number)) => write!(f, "{number}"),
             Ok(Answer::Verdict(verdict, touches)) => write!(f, "{verdict}, {touches}"),
-            Err(refusal) => {
-                let number = refusal.stop.number();
-                write!(f, "stop {number}")
-            }
+            Err(refusal) => write!(f, "stop {}", refusal.stop.number()),
         }
     }
 }

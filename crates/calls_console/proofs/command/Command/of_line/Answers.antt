@@ -10,4 +10,6 @@ asked_here : {line word rest : List ℕ} → Divides line word rest → (k : Com
 asked_here {line} {word} {rest} d k s = subst (λ z. Asks z rest k) (one_word s.divides d) (subst (λ z. Asks s.word z k) (one_rest s.divides d) s.asks)
 
 pub returns-in-None : goal.returns-in-None
-returns-in-None c = (refl, c.if-is_blank.ensures, c.if-is_comment.ensures, λ k s. c.in-None.ensures k (asked_here c.of.ensures k s))
+returns-in-None c =
+    let (blank, comment, divides) = c.in-Some.ensures in
+    (refl, blank, comment, λ k s. c.in-None.ensures k (asked_here divides k s))
