@@ -8,6 +8,7 @@ mod frame;
 mod show;
 
 ghost use Rattle.std.specs.Prelude.{◌≡◌, ◌≤◌, length, None};
+ghost use Rattle.board.specs.Lent.{SameLoan};
 ghost use Rattle.conduct.specs.Calls.{number, to_begin, to_drop, to_feed, to_finish, to_load, to_meter, verdict};
 ghost use Rattle.mark.specs.Limits.{most_bytes};
 ghost use Rattle.screen.specs.Schedules.{frame_touches};
@@ -127,7 +128,7 @@ fn drop_open<B: Board>(
 impl<'b, B: Board> Screen<'b, B> {
     /// A screen that is empty.
     pub fn new(board: &'b mut B) -> Screen<'b, B>
-        ensures lent { (result.board.ghost_name ≡ board.entry.ghost_name) × (result.board.now ≡ board.old) }
+        ensures lent { SameLoan result.board board.entry }
         ensures sound { SoundScreen B.Board B.M.Mark.kind None None result }
     {
         Screen {
