@@ -17,9 +17,6 @@ returns-in_err-builder c =
     let p = err_from_is_err_and c.from_residual.result c.from_residual.ensures.1 in
     record { answers = rw (p.1, p.2) c.in_err-builder.ensures; exactly = rw (p.1, p.2) (only_fault c.in_err-builder.ensures) }
 
-pub finish-requires : goal.finish-requires
-finish-requires c = ((c.args.pattern.now, c.in_ok-builder.ensures), c.in-None.ensures)
-
 pub returns-in-None : goal.returns-in-None
 returns-in-None c =
     let rule = c.finish.ensures c.args.pattern.now c.in_ok-builder.ensures in

@@ -1,6 +1,6 @@
 use Rattle.std.proofs.Common.{◌≡◌, ◌<◌, ◌≤◌, length, drop, refl, ◌∙◌, subst, inl, inr, arith}
 use Rattle.language.specs.Limits.{most_units}
-use Rattle.rule.proofs.Rounds.{fault_as, first_round, last_round, long_fault, next_round, no_unit_fault, passed_on, passes, readied, read_out, unit_fault}
+use Rattle.rule.proofs.Rounds.{fault_as, first_round, long_fault, next_round, no_unit_fault, passed_on, passes, unit_fault}
 use Rattle.rule.proofs.builder.read_units.Goals as goal
 use Rattle.rule.proofs.builder.read_units.Goals.{In_ok-take}
 use Rattle.std.proofs.lemmas.Result.{err_from_is_err_and}
@@ -28,11 +28,6 @@ returns-in_err-placed c =
           fault_as xs 2 at c.in_err-placed.field-0.0 f.number f.place
           (no_unit_fault xs at low c.loop-placed.builder r few (subst (λ z. Stuck (drop at z)) same f.stuck))
     ])
-
-pub take-requires : goal.take-requires
-take-requires c =
-    let (same, low, r) = c.loop-placed.invariant in
-    readied c.loop-placed.builder r (passes c.loop-placed.reader.place c.next_unit.new.reader.place same c.in-Some.is c.in_ok-placed.ensures.reads).0
 
 read_one : (c : In_ok-take) → (c.loop-placed.builder.count ≤ most_units) × ((c.in-Some.placed.place ≡ c.loop-placed.reader.place) × Passed c.args.pattern.now c.loop-placed.reader.place c.in-Some.placed.unit c.next_unit.new.reader.place)
 read_one c = passes c.loop-placed.reader.place c.next_unit.new.reader.place c.loop-placed.invariant.0 c.in-Some.is c.in_ok-placed.ensures.reads
@@ -66,9 +61,3 @@ returns-in_err-take c =
     rw (p.1, p.2)
     (fault_as xs _ at c.in_err-take.field-0.0 refl (e ∙ place)
     (unit_fault xs at low c.loop-placed.builder r c.in-Some.placed.unit c.next_unit.new.reader.place _ few w f))
-
-pub returns : goal.returns
-returns c =
-    let (same, low, r) = c.loop-placed.invariant in
-    last_round c.args.pattern.now c.loop-placed.reader.place c.loop-placed.builder
-    (subst (λ z. length z ≤ c.loop-placed.reader.place) same (read_out _ _ c.loop-placed.reader.place c.next_unit.new.reader.place c.in_default.is c.in_ok-placed.ensures.reads)) r
