@@ -1,7 +1,7 @@
 use Rattle.drive.proofs.Driven.{touched}
 use Rattle.drive.proofs.drive.Goals as goal
 use Rattle.drive.specs.Drives.{after, state}
-use Rattle.std.proofs.lemmas.List.{at_drop_more, drop_all}
+use Rattle.std.proofs.lemmas.List.{at_drop_more}
 use Rattle.std.proofs.Common.{◌+◌, ◌∷◌, drop, sym, ap, ◌∙◌}
 
 pub loop-access-preserved : goal.loop-access-preserved
@@ -18,11 +18,3 @@ loop-access-preserved g c =
           ∙ sym (at_drop_more (after b.make (state (b.cells before) (b.meter before))) xs i a c.loop-access-test.true)
           ∙ c.loop-access.invariant.1,
     )
-
-pub returns : goal.returns
-returns g c =
-    let b = g.B.Board in
-    let l = c.loop-access in record {
-      kept = l.invariant.0;
-      done = ap (after b.make (state (b.cells l.board) (b.meter l.board))) (sym (drop_all l.access-index c.args.accesses.now c.loop-access-test.false)) ∙ l.invariant.1;
-    }
