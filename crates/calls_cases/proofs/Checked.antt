@@ -2,8 +2,8 @@
 use Rattle.std.proofs.Common.{◌≡◌, ℕ, suc, ◌+◌, ◌-◌, ◌*◌, ◌<◌, ◌≤◌, false, List, [], ◌∷◌, length, get_or, replicate, Some, None, Option, sym, refl, ap, ◌∙◌, subst, ap₂, arith, length-append}
 use Rattle.board.specs.Boards.{Touch, moved}
 use Rattle.board.specs.Makes.{Words, tracing, word_of as traced-word}
-use Rattle.calls_cases.specs.Cases.{BeginsOnTrace, Case, CaseHolds, Every, FillsTheTrace, Finishes, Full, HasMarks, HasVerdict, OneScanMisses, WorkedCasesHold, begins_on_trace, fills_the_trace, finished, marks, new_trace, one_scan_misses, tail_verdict, worked_cases, yes_no_verdict}
-use Rattle.cases.proofs.Checked.{Found, both, evidence, found, framed_proper, from_dec, is_found, missing, table?, via}
+use Rattle.calls_cases.specs.Cases.{BeginsOnTrace, Case, CaseHolds, Every, FillsTheTrace, Finishes, Full, HasMarks, HasVerdict, OneScanMisses, WorkedCasesHold, begins_on_trace, fills_the_trace, finished, marks, new_trace, of_pattern, one_scan_misses, tail_verdict, worked_cases, yes_no_verdict}
+use Rattle.cases.proofs.Checked.{Found, case? as pattern?, both, evidence, found, framed_proper, from_dec, is_found, missing, table?, via}
 use Rattle.conduct.specs.Calls.{Said, number, stopped, stopped_at, verdict}
 use Rattle.conduct.specs.Rules.{begin_accepted, begin_without_allowance, finish_accepted}
 use Rattle.language.proofs.Decided.{Outcome, accepts, decide, faults}
@@ -209,7 +209,8 @@ module _ {pattern words : List ℕ} (rule : RuleOf pattern (length words - 1) wo
   fills? = via (λ e. (rule, λ size. full_after size free touched (so_many ∙ e))) (from_dec (ℕ_discrete (frame_touches (length words - 1) bytes) free))
 
 case? : (c : Case) → Found (CaseHolds c)
-unfolding begins? decide fills? finishes? given marks? misses? ruled? table? verdict?
+unfolding begins? decide fills? finishes? given marks? misses? pattern? ruled? table? verdict?
+case? (of_pattern c) = pattern? c
 case? (marks pattern frame ms) = given (λ r. marks? yes_no r.rule frame ms) (ruled? (decide pattern))
 case? (yes_no_verdict pattern frame m) = given (λ r. verdict? yes_no r.rule frame m) (ruled? (decide pattern))
 case? (tail_verdict pattern frame m) = given (λ r. verdict? tail r.rule frame m) (ruled? (decide pattern))

@@ -1,7 +1,8 @@
--- The worked cases of marks, verdicts and calls, in one list.
-use Rattle.std.specs.Prelude.{◌≡◌, ℕ, suc, ◌-◌, List, [], ◌∷◌, length, replicate, Some, None, codes, slice_index_or, slice_set}
+-- The worked cases, in one list: those of tables and stops, and those of marks, verdicts and calls.
+use Rattle.std.specs.Prelude.{◌≡◌, ℕ, suc, ◌-◌, List, [], ◌∷◌, ◌++◌, length, map, replicate, Some, None, codes, slice_index_or, slice_set}
 use Rattle.board.specs.Boards.{moved}
 use Rattle.board.specs.Makes.{Words, counting, tracing}
+use Rattle.cases.specs.Cases as patterns
 use Rattle.conduct.specs.Calls.{Said, frame, number, stopped, to_begin, to_finish, verdict}
 use Rattle.conduct.specs.Rules.{Due}
 use Rattle.language.specs.Links.{last_position}
@@ -20,6 +21,8 @@ use Rattle.theory.specs.Meaning.{Behind, Holds}
 use Rattle.theory.specs.Verdicts.{Verdict}
 
 pub data Case : Type 0 where
+  -- a pattern with its table or its stop
+  of_pattern : patterns.Case → Case
   -- a pattern and a frame with the yes/no marks in all cells after it, or with the verdict of a kind on it
   marks : (pattern frame : List ℕ) (cells : List YesNo) → Case
   yes_no_verdict : (pattern frame : List ℕ) (mark : YesNo) → Case
@@ -73,6 +76,7 @@ FillsTheTrace pattern words bytes free =
     ((size : ℕ) → Full (moved (tracing.step size) (new_trace free) (whole_frame (first_of words) (second_of words) (length words - 1) bytes)) free)
 
 abbrev pub CaseHolds : Case → Type 0
+CaseHolds (of_pattern c) = patterns.CaseHolds c
 CaseHolds (marks pattern frame cells) = HasMarks yes_no pattern frame cells
 CaseHolds (yes_no_verdict pattern frame mark) = HasVerdict yes_no pattern frame mark
 CaseHolds (tail_verdict pattern frame mark) = HasVerdict tail pattern frame mark
@@ -88,6 +92,7 @@ yes_in n (k ∷ ks) = slice_set (yes_in n ks) k Yes
 
 abbrev pub worked_cases : List Case
 worked_cases =
+    map of_pattern patterns.worked_cases ++
     marks (codes "(A)*B|C") (codes "") (yes_in 10 (0 ∷ 1 ∷ 2 ∷ 4 ∷ 5 ∷ 7 ∷ [])) ∷
     marks (codes "(A)*B|C") (codes "A") (yes_in 10 (1 ∷ 2 ∷ 3 ∷ 4 ∷ 5 ∷ [])) ∷
     marks (codes "(A)*B|C") (codes "AB") (yes_in 10 (6 ∷ 8 ∷ 9 ∷ [])) ∷

@@ -1,4 +1,5 @@
-//! Worked cases: patterns and frames with the marks and verdicts that the definitions give them, and calls with what they are told.
+//! Worked cases: patterns with their tables or stops, patterns and frames with the marks and verdicts that the definitions give them,
+//! and calls with what they are told.
 
 #![tactic(auto)]
 

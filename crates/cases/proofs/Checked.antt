@@ -97,7 +97,7 @@ stop? n p (accepts us x r) = missing
 stop? {bytes} n p (faults m q f) =
     via (λ y. subst (λ z. Faulty bytes z p) y.0 (subst (λ z. Faulty bytes m z) y.1 f)) (both (from_dec (ℕ_discrete m n)) (from_dec (ℕ_discrete q p)))
 
-case? : (c : Case) → Found (CaseHolds c)
+unfoldable pub case? : (c : Case) → Found (CaseHolds c)
 unfolding decide stop? table?
 case? (table pattern words) = table? words (decide pattern)
 case? (stop pattern number place) = stop? number place (decide pattern)
