@@ -2,15 +2,24 @@
 
 ghost use Rattle.board.specs.Makes.{counting};
 ghost use Rattle.board.specs.Meters.{nothing_lent};
-ghost use Rattle.std.specs.Prelude.{ℕ};
+ghost use Rattle.std.specs.Prelude.{◌≡◌, ℕ};
 
 use crate::{Meter, Metered, Touch};
 use stops::Stop;
 
 /// Counts touches, modulo 2^64. It allows as many as one likes.
-#[derive(Default, Drop)]
+#[derive(Drop)]
 pub struct TouchMeter {
     touches: u64,
+}
+
+/// A meter that has counted no touch.
+impl Default for TouchMeter {
+    ghost is_default = { λ m. m.touches ≡ 0 };
+
+    fn default() -> TouchMeter {
+        TouchMeter { touches: 0 }
+    }
 }
 
 /// A board over a lent slice of marks that counts its touches.

@@ -2,6 +2,7 @@
 
 ghost use Rattle.board.specs.Makes.{Rows, rows};
 ghost use Rattle.board.specs.Meters.{nothing_lent};
+ghost use Rattle.std.specs.Prelude.{◌≡◌, None};
 
 use crate::{Meter, Metered, Touch};
 use stops::Stop;
@@ -11,10 +12,22 @@ const CELLS_IN_ROW: u64 = 16;
 
 /// Counts the rows that are opened, modulo 2^64: a touch opens its row unless the touch before was in that row. It allows
 /// as many touches as one likes.
-#[derive(Default, Drop)]
+#[derive(Drop)]
 pub struct RowMeter {
     last: Option<u64>,
     opened: u64,
+}
+
+/// A meter that has opened no row.
+impl Default for RowMeter {
+    ghost is_default = { λ m. (m.last ≡ None) × (m.opened ≡ 0) };
+
+    fn default() -> RowMeter {
+        RowMeter {
+            last: None,
+            opened: 0,
+        }
+    }
 }
 
 /// A board over a lent slice of marks that counts the rows that it opens.

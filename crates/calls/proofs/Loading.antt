@@ -18,14 +18,14 @@ pub end_is : {p : List ℕ} {n : ℕ} {words : List ℕ} (r : RuleOf p n words) 
 end_is {p} {n} {words} r = (table_tells r.accepted.tree n words r.table).ends
 
 -- a state that is not open
-pub not_open : (state : State) → ((rule : Rule) (own : OpenFrame) → state ≢ Open rule own) → Unopened state
+pub not_open : (state : State) → ((own : OpenFrame) → state ≢ Open own) → Unopened state
 not_open Empty n = tt
-not_open (Ready rule) n = tt
-not_open (Open rule own) n = n rule own refl
+not_open Ready n = tt
+not_open (Open own) n = n own refl
 
 module _ {M X : Type 0} (make : Make X) (kind : Kind M) (l : Option (List ℕ)) (o : Option Frame) (cells : List M) (meter : X) where
   -- no frame is open
-  pub unopened : (state : State) → Unopened state → Sound make kind l o state cells meter → o ≡ None
-  unopened Empty u s = s.1
-  unopened (Ready rule) u s = s.2
-  unopened (Open rule f) u s = absurd u
+  pub unopened : (state : State) (rule : Rule) → Unopened state → Sound make kind l o (state, rule) cells meter → o ≡ None
+  unopened Empty rule u s = s.1
+  unopened Ready rule u s = s.2
+  unopened (Open f) rule u s = absurd u

@@ -5,8 +5,7 @@ use Rattle.conduct.specs.Calls.{Frame, Order, Said, number, stopped, stopped_at,
 use Rattle.conduct.specs.Rules.{Due, none_stopped}
 use Rattle.language.proofs.Option.{clash}
 use Rattle.mark.specs.Marks.{Kind}
-use Rattle.calls.specs.Sound.{Goes, Sound}
-use Rattle.calls.specs.declared.frame.State.{State}
+use Rattle.calls.specs.Sound.{Goes, Held, Sound}
 
 same_stop : {M : Type 0} {n m : ℕ} → ◌≡◌ {A = Said M} (stopped n) (stopped m) → n ≡ m
 same_stop e = cc
@@ -20,8 +19,8 @@ verdict_no_stop e = clash (cc)
 placed_no_stop : {M A : Type 0} {n p m : ℕ} → ◌≡◌ {A = Said M} (stopped_at n p) (stopped m) → A
 placed_no_stop e = clash (cc)
 
-module _ {M X : Type 0} (make : Make X) (kind : Kind M) {l : Option (List ℕ)} {o : Option Frame} {state : State} {cells : List M} {meter : X} (s : Sound make kind l o state cells meter) where
-  pub stop_goes : {call : Order} {n : ℕ} → n < 18 → Due make kind (length cells) meter l o call (stopped n) → Goes make kind l o state cells meter call (stopped n) state cells meter
+module _ {M X : Type 0} (make : Make X) (kind : Kind M) {l : Option (List ℕ)} {o : Option Frame} {held : Held} {cells : List M} {meter : X} (s : Sound make kind l o held cells meter) where
+  pub stop_goes : {call : Order} {n : ℕ} → n < 18 → Due make kind (length cells) meter l o call (stopped n) → Goes make kind l o held cells meter call (stopped n) held cells meter
   stop_goes {n = n} h d = record {
     done = record { due = d; touches = []; makes = none_stopped (λ a. elim a [ ]); moves = refl; sized = refl; left = refl };
     sound = s;
@@ -29,7 +28,7 @@ module _ {M X : Type 0} (make : Make X) (kind : Kind M) {l : Option (List ℕ)} 
     not_the_boards = λ m e. subst (λ z. z < 18) (same_stop e) h;
   }
 
-  pub stop_at_goes : {call : Order} {n p : ℕ} → Due make kind (length cells) meter l o call (stopped_at n p) → Goes make kind l o state cells meter call (stopped_at n p) state cells meter
+  pub stop_at_goes : {call : Order} {n p : ℕ} → Due make kind (length cells) meter l o call (stopped_at n p) → Goes make kind l o held cells meter call (stopped_at n p) held cells meter
   stop_at_goes d = record {
     done = record { due = d; touches = []; makes = none_stopped (λ a. elim a [ ]); moves = refl; sized = refl; left = refl };
     sound = s;

@@ -20,10 +20,9 @@ use Rattle.rule.specs.Words.{first_of, second_of, takes_at}
 use Rattle.rule.specs.declared.table.Rule.{Rule}
 use Rattle.calls.proofs.Loading.{end_is}
 use Rattle.calls.proofs.Stops.{number_no_stop, verdict_no_stop}
-use Rattle.calls.specs.Sound.{Fitted, Goes, Sound, Underway, made_touches, rest_touches}
+use Rattle.calls.specs.Sound.{Fitted, Goes, Held, Sound, Underway, made_touches, rest_touches}
 use Rattle.calls.specs.declared.frame.OpenFrame.{OpenFrame}
 use Rattle.calls.specs.declared.frame.State.TheVariants.{Open, Ready}
-use Rattle.calls.specs.declared.frame.State.{State}
 use Rattle.std.proofs.ByRecursion.{All-push}
 use Rattle.std.proofs.lemmas.List.{get_or_default}
 use Rattle.theory.proofs.ByteStep.{filled_at}
@@ -122,8 +121,8 @@ module _ {M X : Type 0} (make : Make X) (kind : Kind M) (cells : List M) (meter 
           allowed = subst (λ z. rest_touches rule.last z ≤ make.allowed (length cells') meter') (sym all) (omega arith);
         }
 
-    pub begin_done : (state : State) → Goes make kind (Some p) None state cells meter (to_begin renter m) (number (frame_touches rule.last m)) (Open rule (record { renter = renter; length = m; fed = 0; touches = touches })) cells' meter'
-    begin_done state =
+    pub begin_done : (held : Held) → Goes make kind (Some p) None held cells meter (to_begin renter m) (number (frame_touches rule.last m)) (Open (record { renter = renter; length = m; fed = 0; touches = touches }), rule) cells' meter'
+    begin_done held =
         let a = fitted.table.accepted in
         let e = end_is fitted.table in
         let others : LeavesOthers rule.last cells cells' = subst (LeavesOthers rule.last cells) (sym mv.holds) (begun_others kind rule.words rule.last cells) in
@@ -218,8 +217,8 @@ module _ {M X : Type 0} (make : Make X) (kind : Kind M) (cells : List M) (meter 
             allowed = subst (λ z. rest_touches n (f.length - z) ≤ make.allowed (length cells') meter') (sym k) (omega arith);
           }
 
-      pub feed_done : (state : State) (answer : ℕ) → answer ≡ own.length - (own.fed + 1) → Goes make kind (Some p) (Some f) state cells meter (to_feed renter byte) (number answer) (Open rule now) cells' meter'
-      feed_done state answer is =
+      pub feed_done : (held : Held) (answer : ℕ) → answer ≡ own.length - (own.fed + 1) → Goes make kind (Some p) (Some f) held cells meter (to_feed renter byte) (number answer) (Open now, rule) cells' meter'
+      feed_done held answer is =
           let a = u.fitted.table.accepted in
           let e = end_is u.fitted.table in
           let q = u.promised in
@@ -256,7 +255,7 @@ module _ {M X : Type 0} (make : Make X) (kind : Kind M) (cells : List M) (meter 
           subst (λ z. LeavesOthers z cells cells') g (subst (LeavesOthers n cells) (sym e) ((leave_others M).wiping kind.nothing n cells)),
         )
 
-    ended : Sound make kind (Some p) None (Ready rule) cells' meter
+    ended : Sound make kind (Some p) None (Ready, rule) cells' meter
     ended = (p, refl, refl, record { table = u.fitted.table; fits = let h = u.fitted.fits in let s = wiped_size in omega arith })
 
   -- Finish.
@@ -265,10 +264,10 @@ module _ {M X : Type 0} (make : Make X) (kind : Kind M) (cells : List M) (meter 
         → NotBegun make cells meter n (finishing_of rule) after cells' meter' number → A
     finish_never b = let l = finish_length rule.words n in let r = u.allowed in lacks_nothing u.fitted.fits (omega arith) b.lacks
 
-    pub finish_done : (state : State) (cells' : List M) (meter' : X) (mark : M) (more : ℕ) → own.renter ≡ renter → own.length ≤ own.fed → mark ≡ get_or cells n mark
+    pub finish_done : (held : Held) (cells' : List M) (meter' : X) (mark : M) (more : ℕ) → own.renter ≡ renter → own.length ≤ own.fed → mark ≡ get_or cells n mark
         → Moves make cells meter (finishing_of rule) (wiped_by kind rule cells) cells' meter' more
-        → Goes make kind (Some p) (Some f) state cells meter (to_finish renter) (verdict mark ((own.touches + more) % 2 ^ 64)) (Ready rule) cells' meter'
-    finish_done state cells' meter' mark more mine all is mv =
+        → Goes make kind (Some p) (Some f) held cells meter (to_finish renter) (verdict mark ((own.touches + more) % 2 ^ 64)) (Ready, rule) cells' meter'
+    finish_done held cells' meter' mark more mine all is mv =
         let a = u.fitted.table.accepted in
         let t = a.tree in
         let e = end_is u.fitted.table in
@@ -303,9 +302,9 @@ module _ {M X : Type 0} (make : Make X) (kind : Kind M) (cells : List M) (meter 
     pub drop_never : {A : Type 0} {number : ℕ} {after cells' : List M} {meter' : X} → NotBegun make cells meter n (wiping_of rule) after cells' meter' number → A
     drop_never b = let l = length_writes (suc n) 0 in let r = u.allowed in lacks_nothing u.fitted.fits (omega arith) b.lacks
 
-    pub drop_done : (state : State) (cells' : List M) (meter' : X) (more : ℕ) → own.renter ≡ renter → Moves make cells meter (wiping_of rule) (wiped_by kind rule cells) cells' meter' more
-        → Goes make kind (Some p) (Some f) state cells meter (to_drop renter) (number ((own.touches + more) % 2 ^ 64)) (Ready rule) cells' meter'
-    drop_done state cells' meter' more mine mv =
+    pub drop_done : (held : Held) (cells' : List M) (meter' : X) (more : ℕ) → own.renter ≡ renter → Moves make cells meter (wiping_of rule) (wiped_by kind rule cells) cells' meter' more
+        → Goes make kind (Some p) (Some f) held cells meter (to_drop renter) (number ((own.touches + more) % 2 ^ 64)) (Ready, rule) cells' meter'
+    drop_done held cells' meter' more mine mv =
         let a = u.fitted.table.accepted in
         let e = end_is u.fitted.table in
         let c = mv.counted in

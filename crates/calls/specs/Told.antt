@@ -50,16 +50,16 @@ said_verdict (Err s) = stopped (stop_number s)
 -- no frame is open
 abbrev pub Unopened : State → Type 0
 Unopened Empty = Unit {0}
-Unopened (Ready rule) = Unit {0}
-Unopened (Open rule f) = ⊥
+Unopened Ready = Unit {0}
+Unopened (Open f) = ⊥
 
 -- a frame opened in a ready state, and an open one ended; other states stay
 abbrev pub opened : OpenFrame → State → State
 opened f Empty = Empty
-opened f (Ready rule) = Open rule f
-opened f (Open rule g) = Open rule g
+opened f Ready = Open f
+opened f (Open g) = Open g
 
 abbrev pub closed : State → State
 closed Empty = Empty
-closed (Ready rule) = Ready rule
-closed (Open rule f) = Ready rule
+closed Ready = Ready
+closed (Open f) = Ready

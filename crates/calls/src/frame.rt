@@ -1,11 +1,9 @@
-//! What a screen knows of its rule, and of the frame that is open.
+//! What a screen knows of the frame that is open.
 
 ghost use Rattle.std.specs.Prelude.{◌≡◌, ◌≢◌, MatchResult};
 ghost use Rattle.stops.specs.declared.Stop.TheVariants.{OtherRenter};
 ghost use Rattle.calls.specs.Told.{closed, opened};
 
-use rule::Rule;
-use std::mem;
 use stops::Stop;
 
 /// A frame that is open: whose it is, how many bytes it is to have, how many were fed, and the touches made for it so far.
@@ -30,12 +28,12 @@ impl OpenFrame {
     }
 }
 
-/// A screen is empty, as it is made; ready, with the rule of the last accepted load; or open, with that rule and a frame.
-#[derive(Drop)]
+/// A screen is empty, as it is made; ready, with a rule and no frame; or open.
+#[derive(Clone, Copy, Debug, PartialEq, Eq)]
 pub enum State {
     Empty,
-    Ready(Rule),
-    Open(Rule, OpenFrame),
+    Ready,
+    Open(OpenFrame),
 }
 
 impl State {
@@ -43,8 +41,8 @@ impl State {
     pub(crate) fn open(&mut self, frame: OpenFrame)
         ensures { self.new ≡ opened frame self.old }
     {
-        *self = match mem::replace(self, State::Empty) {
-            State::Ready(rule) => State::Open(rule, frame),
+        *self = match *self {
+            State::Ready => State::Open(frame),
             other => other,
         };
     }
@@ -53,8 +51,8 @@ impl State {
     pub(crate) fn close(&mut self)
         ensures { self.new ≡ closed self.old }
     {
-        *self = match mem::replace(self, State::Empty) {
-            State::Open(rule, _) => State::Ready(rule),
+        *self = match *self {
+            State::Open(_) => State::Ready,
             other => other,
         };
     }

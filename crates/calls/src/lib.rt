@@ -20,7 +20,7 @@ use board::Board;
 pub use call::{Answer, Call, Refusal};
 pub use frame::{OpenFrame, State};
 use mark::MOST_BYTES;
-use rule::{Rule, read};
+use rule::{Rule, empty_rule, read};
 use screen::{begin_cells, feed_cells, finish_cells, wipe_cells};
 use stops::Stop;
 use syntax::Fault;
@@ -44,6 +44,8 @@ fn frame_touches(last: u16, length: u64) -> u64
 #[derive(Drop)]
 pub struct Screen<'b, B> {
     board: &'b mut B,
+    /// The rule of the last accepted load. Until there is one the state is empty, and no call looks at it.
+    rule: Rule,
     state: State,
 }
 
@@ -54,7 +56,7 @@ fn begin_ready<B: Board>(
     renter: u8,
     length: u64,
 ) -> Result<(u64, OpenFrame), Stop>
-    ensures { Leads B.Board B.M.Mark.kind board.old board.new (Ready rule.now) (λ r. Open rule.now r.1) (to_begin renter length) (λ r. number r.0) result }
+    ensures { Leads B.Board B.M.Mark.kind board.old board.new (Ready, rule.now) (λ r. (Open r.1, rule.now)) (to_begin renter length) (λ r. number r.0) result }
 {
     if length > u64::from(MOST_BYTES) {
         return Err(Stop::FrameTooLong);
@@ -81,7 +83,7 @@ fn feed_open<B: Board>(
     renter: u8,
     byte: u8,
 ) -> Result<u64, Stop>
-    ensures { Takes B.Board B.M.Mark.kind board.old board.new (Open rule.now frame.old) (Open rule.now frame.new) (to_feed renter byte) (said_number result) }
+    ensures { Takes B.Board B.M.Mark.kind board.old board.new (Open frame.old, rule.now) (Open frame.new, rule.now) (to_feed renter byte) (said_number result) }
 {
     frame.check_renter(renter)?;
     if frame.fed >= frame.length {
@@ -101,7 +103,7 @@ fn finish_open<B: Board>(
     frame: OpenFrame,
     renter: u8,
 ) -> Result<(B::M, u64), Stop>
-    ensures { Leads B.Board B.M.Mark.kind board.old board.new (Open rule.now frame) (λ _. Ready rule.now) (to_finish renter) (λ r. verdict r.0 r.1) result }
+    ensures { Leads B.Board B.M.Mark.kind board.old board.new (Open frame, rule.now) (λ _. (Ready, rule.now)) (to_finish renter) (λ r. verdict r.0 r.1) result }
 {
     frame.check_renter(renter)?;
     if frame.fed < frame.length {
@@ -118,7 +120,7 @@ fn drop_open<B: Board>(
     frame: OpenFrame,
     renter: u8,
 ) -> Result<u64, Stop>
-    ensures { Leads B.Board B.M.Mark.kind board.old board.new (Open rule.now frame) (λ _. Ready rule.now) (to_drop renter) number result }
+    ensures { Leads B.Board B.M.Mark.kind board.old board.new (Open frame, rule.now) (λ _. (Ready, rule.now)) (to_drop renter) number result }
 {
     frame.check_renter(renter)?;
     let more = wipe_cells(board, rule)?;
@@ -133,6 +135,7 @@ impl<'b, B: Board> Screen<'b, B> {
     {
         Screen {
             board,
+            rule: empty_rule(),
             state: State::Empty,
         }
     }
@@ -147,7 +150,8 @@ impl<'b, B: Board> Screen<'b, B> {
         if u64::from(last) >= self.board.size() {
             return Err(Fault::at(Stop::TooWide, pattern.len()));
         }
-        self.state = State::Ready(rule);
+        self.rule = rule;
+        self.state = State::Ready;
         Ok(last)
     }
 
@@ -155,9 +159,9 @@ impl<'b, B: Board> Screen<'b, B> {
     pub fn load(&mut self, pattern: &[u8]) -> Result<u16, Fault>
         ensures { Conducts B.Board B.M.Mark.kind self.old self.new (to_load pattern.now) (said_at result) }
     {
-        match &self.state {
-            State::Empty | State::Ready(_) => self.load_unopened(pattern),
-            State::Open(..) => Err(LOAD_WHILE_OPEN),
+        match self.state {
+            State::Empty | State::Ready => self.load_unopened(pattern),
+            State::Open(_) => Err(LOAD_WHILE_OPEN),
         }
     }
 
@@ -165,14 +169,14 @@ impl<'b, B: Board> Screen<'b, B> {
     pub fn begin(&mut self, renter: u8, length: u64) -> Result<u64, Stop>
         ensures { Conducts B.Board B.M.Mark.kind self.old self.new (to_begin renter length) (said_number result) }
     {
-        match &self.state {
+        match self.state {
             State::Empty => Err(Stop::NoRule),
-            State::Ready(rule) => {
-                let (touches, frame) = begin_ready(self.board, rule, renter, length)?;
+            State::Ready => {
+                let (touches, frame) = begin_ready(self.board, &self.rule, renter, length)?;
                 self.state.open(frame);
                 Ok(touches)
             }
-            State::Open(..) => Err(Stop::FrameOpen),
+            State::Open(_) => Err(Stop::FrameOpen),
         }
     }
 
@@ -180,20 +184,20 @@ impl<'b, B: Board> Screen<'b, B> {
     pub fn feed(&mut self, renter: u8, byte: u8) -> Result<u64, Stop>
         ensures { Conducts B.Board B.M.Mark.kind self.old self.new (to_feed renter byte) (said_number result) }
     {
-        let State::Open(rule, frame) = &mut self.state else {
+        let State::Open(frame) = &mut self.state else {
             return Err(Stop::NoFrame);
         };
-        feed_open(self.board, rule, frame, renter, byte)
+        feed_open(self.board, &self.rule, frame, renter, byte)
     }
 
     /// Ends a renter's frame; answers its verdict, and the touches made for it.
     pub fn finish(&mut self, renter: u8) -> Result<(B::M, u64), Stop>
         ensures { Conducts B.Board B.M.Mark.kind self.old self.new (to_finish renter) (said_verdict result) }
     {
-        let State::Open(rule, frame) = &self.state else {
+        let State::Open(frame) = self.state else {
             return Err(Stop::NoFrame);
         };
-        let verdict = finish_open(self.board, rule, *frame, renter)?;
+        let verdict = finish_open(self.board, &self.rule, frame, renter)?;
         self.state.close();
         Ok(verdict)
     }
@@ -202,10 +206,10 @@ impl<'b, B: Board> Screen<'b, B> {
     pub fn drop(&mut self, renter: u8) -> Result<u64, Stop>
         ensures { Conducts B.Board B.M.Mark.kind self.old self.new (to_drop renter) (said_number result) }
     {
-        let State::Open(rule, frame) = &self.state else {
+        let State::Open(frame) = self.state else {
             return Err(Stop::NoFrame);
         };
-        let made = drop_open(self.board, rule, *frame, renter)?;
+        let made = drop_open(self.board, &self.rule, frame, renter)?;
         self.state.close();
         Ok(made)
     }
@@ -230,29 +234,29 @@ impl<'b, B: Board> Screen<'b, B> {
             (State::Empty, Call::Feed { .. }) => Err(Stop::NoFrame.into()),
             (State::Empty, Call::Finish { .. }) => Err(Stop::NoFrame.into()),
             (State::Empty, Call::Drop { .. }) => Err(Stop::NoFrame.into()),
-            (State::Ready(_), Call::Load(pattern)) => {
+            (State::Ready, Call::Load(pattern)) => {
                 Ok(Answer::Number(self.load_unopened(pattern)?.into()))
             }
-            (State::Ready(rule), Call::Begin { renter, length }) => {
-                let (touches, frame) = begin_ready(self.board, rule, renter, length)?;
+            (State::Ready, Call::Begin { renter, length }) => {
+                let (all, frame) = begin_ready(self.board, &self.rule, renter, length)?;
                 self.state.open(frame);
-                Ok(Answer::Number(touches))
+                Ok(Answer::Number(all))
             }
-            (State::Ready(_), Call::Feed { .. }) => Err(Stop::NoFrame.into()),
-            (State::Ready(_), Call::Finish { .. }) => Err(Stop::NoFrame.into()),
-            (State::Ready(_), Call::Drop { .. }) => Err(Stop::NoFrame.into()),
-            (State::Open(..), Call::Load(_)) => Err(LOAD_WHILE_OPEN.into()),
-            (State::Open(..), Call::Begin { .. }) => Err(Stop::FrameOpen.into()),
-            (State::Open(rule, frame), Call::Feed { renter, byte }) => {
-                Ok(Answer::Number(feed_open(self.board, rule, frame, renter, byte)?))
+            (State::Ready, Call::Feed { .. }) => Err(Stop::NoFrame.into()),
+            (State::Ready, Call::Finish { .. }) => Err(Stop::NoFrame.into()),
+            (State::Ready, Call::Drop { .. }) => Err(Stop::NoFrame.into()),
+            (State::Open(_), Call::Load(_)) => Err(LOAD_WHILE_OPEN.into()),
+            (State::Open(_), Call::Begin { .. }) => Err(Stop::FrameOpen.into()),
+            (State::Open(frame), Call::Feed { renter, byte }) => {
+                Ok(Answer::Number(feed_open(self.board, &self.rule, frame, renter, byte)?))
             }
-            (State::Open(rule, frame), Call::Finish { renter }) => {
-                let (mark, touches) = finish_open(self.board, rule, *frame, renter)?;
+            (State::Open(frame), Call::Finish { renter }) => {
+                let (mark, touches) = finish_open(self.board, &self.rule, *frame, renter)?;
                 self.state.close();
                 Ok(Answer::Verdict(mark, touches))
             }
-            (State::Open(rule, frame), Call::Drop { renter }) => {
-                let touches = drop_open(self.board, rule, *frame, renter)?;
+            (State::Open(frame), Call::Drop { renter }) => {
+                let touches = drop_open(self.board, &self.rule, *frame, renter)?;
                 self.state.close();
                 Ok(Answer::Number(touches))
             }

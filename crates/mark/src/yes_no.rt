@@ -19,7 +19,10 @@ impl Mark for YesNo {
     }
 
     fn join(self, other: YesNo) -> YesNo {
-        self.max(other)
+        match self {
+            YesNo::Yes => YesNo::Yes,
+            YesNo::Nothing => other,
+        }
     }
 
     fn seed(place: u64) -> YesNo {

@@ -43,7 +43,8 @@ fn fresh<M: Mark>(fed: u64) -> M
 /// So many scans bring every mark to wherever links lead from it.
 const SCANS: u64 = 2;
 
-/// What moves a frame's marks: a board, the rule that they move by, and the touches made so far.
+/// What moves a frame's marks: a board, the rule that they move by, and the touches made so far. Its movements are inlined into
+/// the calls, whose loops then have all three in registers.
 #[derive(Drop)]
 struct Mover<'b, B> {
     board: &'b mut B,
@@ -112,6 +113,7 @@ impl<'b, B: Board> Mover<'b, B> {
     }
 
     /// Writes `first` to cell 0 and nothing to the other cells up to the last, in that order.
+    #[inline(always)]
     fn fill(&mut self, first: B::M) -> Result<(), Stop>
         requires { self.old.touches < 2 ^ 16 }
         ensures { RuledMovement B.Board self.old placing_of (placed_with B.M.Mark.kind first) self.new result }
@@ -123,6 +125,7 @@ impl<'b, B: Board> Mover<'b, B> {
     }
 
     /// Places the first marks of a frame: seed(0) in cell 0, nothing in the others.
+    #[inline(always)]
     fn place(&mut self) -> Result<(), Stop>
         requires { self.old.touches < 2 ^ 16 }
         ensures { RuledMovement B.Board self.old placing_of (placed_by B.M.Mark.kind) self.new result }
@@ -131,6 +134,7 @@ impl<'b, B: Board> Mover<'b, B> {
     }
 
     /// Wipes a frame's cells: writes nothing to each.
+    #[inline(always)]
     fn wipe(&mut self) -> Result<(), Stop>
         requires { self.old.touches < 2 ^ 16 }
         ensures { RuledMovement B.Board self.old wiping_of (wiped_by B.M.Mark.kind) self.new result }
@@ -139,6 +143,7 @@ impl<'b, B: Board> Mover<'b, B> {
     }
 
     /// Joins to each cell from 0 to the last, in that order, its predecessors' marks.
+    #[inline(always)]
     fn scan(&mut self) -> Result<(), Stop>
         requires { self.old.touches < 2 ^ 16 }
         ensures { RuledMovement B.Board self.old scanning_of (scanned_by B.M.Mark.kind) self.new result }
@@ -155,6 +160,7 @@ impl<'b, B: Board> Mover<'b, B> {
     }
 
     /// Scans the cells twice, one scan after the other.
+    #[inline(always)]
     fn settle(&mut self) -> Result<(), Stop>
         requires { self.old.touches < 2 ^ 12 }
         ensures { RuledMovement B.Board self.old settling_of (settled_by B.M.Mark.kind) self.new result }
@@ -166,6 +172,7 @@ impl<'b, B: Board> Mover<'b, B> {
     }
 
     /// Carries the marks over a byte, from the last cell down to cell 1, and puts seed(bytes fed so far) into cell 0.
+    #[inline(always)]
     fn step(&mut self, byte: u8, fed: u64) -> Result<(), Stop>
         requires { self.old.touches < 2 ^ 16 }
         ensures { RuledMovement B.Board self.old stepping_of (stepped_by B.M.Mark.kind byte fed) self.new result }

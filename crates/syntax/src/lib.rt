@@ -61,7 +61,22 @@ impl Fault {
 fn is_special(b: u8) -> bool
     ensures { MatchBool result (Special b) (Special b → ⊥) }
 {
-    b"()|*+?.\\[]{}^$".contains(&b)
+    matches!(
+        b,
+        b'(' | b')'
+            | b'|'
+            | b'*'
+            | b'+'
+            | b'?'
+            | b'.'
+            | b'\\'
+            | b'['
+            | b']'
+            | b'{'
+            | b'}'
+            | b'^'
+            | b'$'
+    )
 }
 
 /// The value of a hexadecimal digit.

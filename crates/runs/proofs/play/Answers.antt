@@ -31,8 +31,8 @@ returns g c =
     let lent = c.new-screen.ensures.lent.1 in
     let all =
     playing_all b.make g.B.M.Mark.kind
-    (subst (λ z. Playing b.make g.B.M.Mark.kind (b.cells c.new-screen.result.board.now) (b.meter c.new-screen.result.board.now) (orders z) (told_of (take room c.loop-i.told)) c.loop-i.screen.state (b.cells c.loop-i.screen.board.now) (b.meter c.loop-i.screen.board.now)) (take-take room room c.args.calls.now (omega arith))
-    (subst (λ z. Playing b.make g.B.M.Mark.kind (b.cells c.new-screen.result.board.now) (b.meter c.new-screen.result.board.now) (orders (take z (take room c.args.calls.now))) (told_of (take z c.loop-i.told)) c.loop-i.screen.state (b.cells c.loop-i.screen.board.now) (b.meter c.loop-i.screen.board.now)) e c.loop-i.invariant.0)) in
+    (subst (λ z. Playing b.make g.B.M.Mark.kind (b.cells c.new-screen.result.board.now) (b.meter c.new-screen.result.board.now) (orders z) (told_of (take room c.loop-i.told)) (c.loop-i.screen.state, c.loop-i.screen.rule) (b.cells c.loop-i.screen.board.now) (b.meter c.loop-i.screen.board.now)) (take-take room room c.args.calls.now (omega arith))
+    (subst (λ z. Playing b.make g.B.M.Mark.kind (b.cells c.new-screen.result.board.now) (b.meter c.new-screen.result.board.now) (orders (take z (take room c.args.calls.now))) (told_of (take z c.loop-i.told)) (c.loop-i.screen.state, c.loop-i.screen.rule) (b.cells c.loop-i.screen.board.now) (b.meter c.loop-i.screen.board.now)) e c.loop-i.invariant.0)) in
     record {
       kept = subst (b.keeps.same c.args.board.now) (search rules) (subst (λ z. b.keeps.same z c.loop-i.screen.board.now) lent c.loop-i.invariant.3);
       many = c.min-room.ensures;
