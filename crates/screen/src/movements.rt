@@ -43,8 +43,8 @@ fn fresh<M: Mark>(fed: u64) -> M
 /// So many scans bring every mark to wherever links lead from it.
 const SCANS: u64 = 2;
 
-/// What moves a frame's marks: a board, the rule that they move by, and the touches made so far. Its movements are inlined into
-/// the calls, whose loops then have all three in registers.
+/// What moves a frame's marks: a board, the rule that they move by, and the touches made so far. Its methods are inlined into the
+/// calls, and those that scan are inlined no further, so that their loops need not go through it at each touch.
 #[derive(Drop)]
 struct Mover<'b, B> {
     board: &'b mut B,
@@ -54,6 +54,7 @@ struct Mover<'b, B> {
 
 impl<'b, B: Board> Mover<'b, B> {
     /// A mover on the board that it is lent, which has made no touch.
+    #[inline(always)]
     fn new(board: &'b mut B, rule: &'b Rule) -> Mover<'b, B>
         ensures { Starts board.entry rule.now result }
     {
@@ -65,6 +66,7 @@ impl<'b, B: Board> Mover<'b, B> {
     }
 
     /// The last cell of a frame.
+    #[inline(always)]
     fn last(&self) -> u64
         ensures { result ≡ self.now.rule.now.last }
     {
@@ -72,6 +74,7 @@ impl<'b, B: Board> Mover<'b, B> {
     }
 
     /// Whether the board has a cell for each position of the rule, and allows so many touches: else stop 18 or 19.
+    #[inline(always)]
     fn admit(&self, touches: u64) -> Result<(), Stop>
         ensures { Admits B.Board self.now.board.now self.now.rule.now touches result }
     {
@@ -85,6 +88,7 @@ impl<'b, B: Board> Mover<'b, B> {
     }
 
     /// Reads a cell, and counts the touch.
+    #[inline(always)]
     fn read(&mut self, cell: u64) -> Result<B::M, Stop>
         requires { self.old.touches < 2 ^ 32 }
         ensures { ReadOf B.Board self.old cell self.new result }
@@ -95,6 +99,7 @@ impl<'b, B: Board> Mover<'b, B> {
     }
 
     /// Writes a cell, and counts the touch.
+    #[inline(always)]
     fn write(&mut self, cell: u64, mark: B::M) -> Result<(), Stop>
         requires { self.old.touches < 2 ^ 32 }
         ensures { WriteOf B.Board self.old cell mark self.new result }
@@ -105,6 +110,7 @@ impl<'b, B: Board> Mover<'b, B> {
     }
 
     /// Reads the cell of a predecessor of `position`, and counts the touch.
+    #[inline(always)]
     fn read_source(&mut self, predecessor: Option<u16>, position: u16) -> Result<B::M, Stop>
         requires { self.old.touches < 2 ^ 32 }
         ensures { ReadOf B.Board self.old (source predecessor position) self.new result }
@@ -187,6 +193,7 @@ impl<'b, B: Board> Mover<'b, B> {
 }
 
 /// Places the first marks of a frame and scans twice; answers the touches made.
+#[inline(never)]
 pub fn begin_cells<B: Board>(board: &mut B, rule: &Rule) -> Result<u64, Stop>
     ensures { Call B.Board board.old rule.now beginning_of (begun_by B.M.Mark.kind) board.new result }
 {
@@ -198,6 +205,7 @@ pub fn begin_cells<B: Board>(board: &mut B, rule: &Rule) -> Result<u64, Stop>
 }
 
 /// Carries the marks over a byte, the frame's `fed`-th, and scans twice; answers the touches made.
+#[inline(never)]
 pub fn feed_cells<B: Board>(board: &mut B, rule: &Rule, byte: u8, fed: u64) -> Result<u64, Stop>
     ensures { Call B.Board board.old rule.now feeding_of (fed_by B.M.Mark.kind byte fed) board.new result }
 {
